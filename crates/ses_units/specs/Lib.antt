@@ -1,0 +1,2 @@
+-- What the contracts of the small values cite.
+pub mod Bits

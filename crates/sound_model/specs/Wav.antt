@@ -1,0 +1,142 @@
+-- A WAV file as a whole list of bytes (RIFF WAVE 1.0, and this project's own rules of what is read).
+-- A chunk is four bytes of name, four of size with the low byte first, that many bytes, and a pad byte after an odd number.
+use Rattle.std.specs.Prelude.{ℕ, zero, suc, ◌+◌, ◌-◌, ◌*◌, ◌/◌, ◌%◌, ℤ, pos, Bool, not, ◌&&◌, ◌||◌, ◌==◌, nat_lt, nat_le, if◌then◌else◌, List, ◌++◌, length, take, drop, replicate, flat_map, Option, Some, None, Result, Ok, Err, codes, bytes_eq}
+use Rattle.std.specs.Int.{w16, w32, to_le_bytes}
+use Rattle.sound_model.specs.Numbers.{number, sample_at, sample_bytes}
+
+pub record Form : Type 0 where
+  pub channels : ℕ
+  -- frames per second
+  pub rate : ℕ
+  pub bits : ℕ
+
+-- what stands before the sound: the form, the place of the first byte of the sound, and how many whole frames are told
+pub record Head : Type 0 where
+  pub form : Form
+  pub data_at : ℕ
+  pub frames : ℕ
+
+-- why a list of bytes isn't read
+pub data Refusal : Type 0 where
+  NotRiff : Refusal
+  NotWave : Refusal
+  -- the place at which the next chunk would stand
+  HeadTooLong : ℕ → Refusal
+  NoData : Refusal
+  NoFormat : Refusal
+  -- the bytes of the `fmt ` chunk
+  FormatShort : ℕ → Refusal
+  -- the field that isn't read
+  Format : ℕ → Refusal
+  Channels : ℕ → Refusal
+  Bits : ℕ → Refusal
+  Rate : ℕ → Refusal
+  Align : ℕ → Refusal
+  -- the bytes that `data` tells, and those that are there
+  Truncated : ℕ → ℕ → Refusal
+
+infixl 10 ◌>>=◌
+abbrev pub ◌>>=◌ : {A B : Type 0} → Result A Refusal → (A → Result B Refusal) → Result B Refusal
+(Ok x) >>= f = f x
+(Err e) >>= f = Err e
+
+-- the bytes of one frame
+abbrev pub align : Form → ℕ
+align form = form.channels * (form.bits / 8)
+
+abbrev pub begins_at : List ℕ → ℕ → List ℕ → Bool
+begins_at b p word = bytes_eq (take (length word) (drop p b)) word
+
+-- ---- chunks
+
+-- no chunk header is looked for past this place
+abbrev pub last_place : ℕ
+last_place = 16777216
+
+-- a chunk stands at p: its eight bytes lie within the file, and within what the file's second field tells
+abbrev pub stands : List ℕ → ℕ → Bool
+stands b p = nat_le (p + 8) (8 + number 4 (drop 4 b)) && nat_le (p + 8) (length b)
+
+abbrev pub size_at : List ℕ → ℕ → ℕ
+size_at b p = number 4 (drop (p + 4) b)
+
+-- the place after the chunk at p
+abbrev pub after : List ℕ → ℕ → ℕ
+after b p = p + 8 + size_at b p + size_at b p % 2
+
+-- ---- the form
+
+-- the form of these five fields, or the first of them that isn't read
+abbrev pub form_of : ℕ → ℕ → ℕ → ℕ → ℕ → Result Form Refusal
+form_of tag channels rate block bits =
+    if not (tag == 1) then Err (Format tag)
+    else (if nat_lt channels 1 || nat_lt 8 channels then Err (Channels channels)
+    else (if not (bits == 8 || bits == 16 || bits == 24) then Err (Bits bits)
+    else (if nat_lt rate 8000 || nat_lt 192000 rate then Err (Rate rate)
+    else (if not (block == channels * (bits / 8)) then Err (Align block)
+    else Ok (record { channels = channels; rate = rate; bits = bits })))))
+
+-- the `fmt ` chunk at p, all of whose bytes are there
+abbrev pub format_at : List ℕ → ℕ → Result Form Refusal
+format_at b p =
+    if nat_lt (size_at b p) 16 || nat_lt (length b) (p + 8 + size_at b p) then Err (FormatShort (size_at b p))
+    else form_of (number 2 (drop (p + 8) b)) (number 2 (drop (p + 10) b)) (number 4 (drop (p + 12) b))
+    (number 2 (drop (p + 20) b)) (number 2 (drop (p + 22) b))
+
+-- the form after the chunk at p, which isn't `data`: the first `fmt ` gives it, and every other chunk is skipped
+abbrev pub form_after : List ℕ → ℕ → Option Form → Result (Option Form) Refusal
+form_after b p (Some form) = Ok (Some form)
+form_after b p None = if begins_at b p (codes "fmt ") then (format_at b p >>= λ form. Ok (Some form)) else Ok None
+
+-- ---- the head
+
+-- the head where `data` stands at p. Where the size of the file was told, all of `data` is there
+abbrev pub head_at : Bool → List ℕ → ℕ → Option Form → Result Head Refusal
+head_at told b p None = Err NoFormat
+head_at told b p (Some form) =
+    if told && nat_lt (length b) (p + 8 + size_at b p) then Err (Truncated (size_at b p) (length b - (p + 8)))
+    else Ok (record { form = form; data_at = p + 8; frames = size_at b p / align form })
+
+-- where no chunk is left to be looked at
+abbrev pub end_at : ℕ → Refusal
+end_at p = if nat_lt last_place p then HeadTooLong p else NoData
+
+-- the walk from the chunk at p on, over at most so many chunks, with the form found so far
+unfoldable pub walk : ℕ → Bool → List ℕ → ℕ → Option Form → Result Head Refusal
+walk zero told b p form = Err (end_at p)
+walk (suc chunks) told b p form =
+    if nat_lt last_place p || not (stands b p) then Err (end_at p)
+    else (if begins_at b p (codes "data") then head_at told b p form
+    else (form_after b p form >>= λ found. walk chunks told b (after b p) found))
+
+-- The head of a file, or why it isn't read: the first thing wrong on the walk. The second argument is the whole file;
+-- the first says whether its size was told before. No file has more chunks than bytes.
+unfoldable pub head : Bool → List ℕ → Result Head Refusal
+head told b =
+    if nat_lt (length b) 12 || not (begins_at b 0 (codes "RIFF")) then Err NotRiff
+    else (if not (begins_at b 8 (codes "WAVE")) then Err NotWave
+    else walk (length b) told b 12 None)
+
+-- ---- the sound
+
+-- the sample of frame i and channel c of a file with this head; a frame that isn't whole, or isn't there, is silence
+unfoldable pub sound : Head → List ℕ → ℕ → ℕ → ℤ
+sound h b i c = let frame = h.data_at + i * align h.form in
+    if nat_lt i h.frames && nat_lt c h.form.channels && nat_le (frame + align h.form) (length b)
+    then sample_at h.form.bits (drop (frame + c * (h.form.bits / 8)) b) else pos 0
+
+-- the 44 bytes before so many bytes of sound
+unfoldable pub header : Form → ℕ → List ℕ
+header form bytes = codes "RIFF" ++ to_le_bytes w32 (36 + bytes + bytes % 2) ++ codes "WAVE"
+    ++ codes "fmt " ++ to_le_bytes w32 16 ++ to_le_bytes w16 1 ++ to_le_bytes w16 form.channels ++ to_le_bytes w32 form.rate
+    ++ to_le_bytes w32 (form.rate * align form) ++ to_le_bytes w16 (align form) ++ to_le_bytes w16 form.bits
+    ++ codes "data" ++ to_le_bytes w32 bytes
+
+-- the bytes of these samples, one after another, in a file of 16 or of 24 bits
+abbrev pub sound_bytes : ℕ → List ℤ → List ℕ
+sound_bytes bits samples = flat_map (sample_bytes bits) samples
+
+-- the file that is written of these samples, which stand frame by frame
+unfoldable pub canon : Form → List ℤ → List ℕ
+canon form samples = let sound = sound_bytes form.bits samples in
+    header form (length sound) ++ sound ++ replicate (length sound % 2) 0
