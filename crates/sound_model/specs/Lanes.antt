@@ -1,11 +1,16 @@
 -- The gain of a route at a place: its fader, or the line through the points of its lane (own).
-use Rattle.std.specs.Prelude.{ℕ, ◌-◌, pos, ◌+ℤ◌, ◌-ℤ◌, ◌*ℤ◌, nat_lt, unsigned_abs, if◌then◌else◌, List, [], ◌∷◌}
+use Rattle.std.specs.Prelude.{ℕ, ◌-◌, Bool, true, ◌&&◌, pos, ◌+ℤ◌, ◌-ℤ◌, ◌*ℤ◌, nat_lt, unsigned_abs, if◌then◌else◌, List, [], ◌∷◌}
 use Rattle.std.specs.Int.{int_div_euclid}
 
--- a lane's points stand in rising place
 pub record Point : Type 0 where
   pub at : ℕ
   pub gain : ℕ
+
+-- each point stands after the one before it, as those of a lane do
+abbrev pub rises : List Point → Bool
+rises [] = true
+rises (p ∷ []) = true
+rises (p ∷ q ∷ qs) = nat_lt p.at q.at && rises (q ∷ qs)
 
 pub data Mode : Type 0 where
   -- the fader is heard

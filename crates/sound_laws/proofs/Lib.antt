@@ -1,0 +1,13 @@
+-- The proofs of the laws.
+mod Cases
+mod NumberLaws
+mod FadeLaws
+mod LaneLaws
+mod DeskLaws
+mod DepthLaws
+mod PlainLaws
+mod WalkLaws
+mod WrittenLaws
+mod SoundLaws
+mod LayerLaws
+mod SilenceLaws
