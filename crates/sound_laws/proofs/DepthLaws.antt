@@ -15,7 +15,7 @@ use Rattle.sound_laws.proofs.DeskLaws.{only_links_feed}
 -- ---- chains of links
 
 -- so many links, one after another, of which the last leads to a route
-abbrev Chain : List Route → ℕ → ℕ → Type 0
+abbrev pub Chain : List Route → ℕ → ℕ → Type 0
 Chain routes zero to = Unit {0}
 Chain routes (suc long) to = (f : ℕ) × IsTrue (links routes f to) × Chain routes long f
 
@@ -29,7 +29,7 @@ unfolding visited
 length-visited routes zero to chain = refl
 length-visited routes (suc long) to chain = ap suc (length-visited routes long chain.0 chain.2)
 
-links-below : (routes : List Route) (f to : ℕ) → IsTrue (links routes f to) → f < length routes
+pub links-below : (routes : List Route) (f to : ℕ) → IsTrue (links routes f to) → f < length routes
 links-below [] f to h = absurd (false_is_true h)
   where
     false_is_true : false ≡ true → ⊥
@@ -75,7 +75,7 @@ below_among n (g ∷ gs) h q e = by_test (eqb q g)
     (λ apart. below_among n gs h.1 q (grind (arith, nat_tests)))
 
 -- a chain to a route of the list has fewer links than there are routes
-no_long_chain : (routes : List Route) (to : ℕ) → NoCycle routes → to < length routes → ¬ (Chain routes (length routes) to)
+pub no_long_chain : (routes : List Route) (to : ℕ) → NoCycle routes → to < length routes → ¬ (Chain routes (length routes) to)
 no_long_chain routes to none here chain =
     let few : length (visited routes (length routes) to chain) ≤ length routes = length-le_from_distinct_below (visited routes (length routes) to chain) (length routes)
     (visited-distinct routes (length routes) to chain none)

@@ -5,6 +5,7 @@ mod FadeLaws
 mod LaneLaws
 mod DeskLaws
 mod DepthLaws
+pub mod CycleLaws
 mod PlainLaws
 mod WalkLaws
 mod WrittenLaws

@@ -1,9 +1,9 @@
 -- What is said of tracks, busses and the master.
-use Rattle.std.specs.Prelude.{◌≡◌, ℕ, suc, ◌+◌, ℤ, pos, ◌+ℤ◌, Bool, true, false, ◌&&◌, ◌==◌, if◌then◌else◌, List, [], ◌∷◌, length, Some, None, slice_get}
+use Rattle.std.specs.Prelude.{◌≡◌, ◌↔◌, ℕ, suc, ◌+◌, ℤ, pos, ◌+ℤ◌, Bool, true, false, ◌&&◌, ◌==◌, if◌then◌else◌, List, [], ◌∷◌, length, Some, None, slice_get}
 use Rattle.std.specs.List.{AllByRecursion}
 use Rattle.sound_model.specs.Numbers.{unity, clip}
 use Rattle.sound_model.specs.Lanes.{gain_at}
-use Rattle.sound_model.specs.Routes.{Route, leads_to, feeds, any_solo, NoCycle, fed, route_input, route_post, input_within}
+use Rattle.sound_model.specs.Routes.{Route, leads_to, feeds, any_solo, NoCycle, has_cycle, fed, route_input, route_post, input_within}
 
 -- A route that gives nothing at x: its output is silent, and so is all that it feeds others, before and after its fader.
 pub record IsSilent (routes : List Route) (samples : ℕ → ℕ → ℤ) (x : ℕ) (place : ℕ) (q : Route) : Type 0 where
@@ -20,6 +20,10 @@ SoloSilencesOtherTracks = (routes : List Route) (samples : ℕ → ℕ → ℤ) 
 
 abbrev pub OnlyLinksFeed : Type 0
 OnlyLinksFeed = (solo : Bool) (x to channels c : ℕ) (q : Route) (input : ℕ → ℤ) → feeds q to ≡ false → fed solo x to channels c q input ≡ pos 0
+
+-- the test of a cycle finds one exactly where a route leads back to itself
+abbrev pub CyclesAreFound : Type 0
+CyclesAreFound = (routes : List Route) → (has_cycle routes ≡ false) ↔ NoCycle routes
 
 abbrev pub DeeperIsTheSame : Type 0
 DeeperIsTheSame = (routes : List Route) (samples : ℕ → ℕ → ℤ) (x further place c : ℕ) → NoCycle routes →

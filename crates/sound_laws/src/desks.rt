@@ -1,6 +1,6 @@
 //! The laws of tracks, busses and the master.
 
-ghost use Rattle.sound_laws.specs.Desks.{MutedIsSilent, SoloSilencesOtherTracks, OnlyLinksFeed, PlainDeskSums, DeeperIsTheSame};
+ghost use Rattle.sound_laws.specs.Desks.{MutedIsSilent, SoloSilencesOtherTracks, OnlyLinksFeed, PlainDeskSums, CyclesAreFound, DeeperIsTheSame};
 
 /// A muted route gives nothing, through its output or any send.
 #[tactic(auto, using(crate::proofs::DeskLaws::muted_is_silent))]
@@ -31,4 +31,10 @@ pub fn plain_desk_sums()
 #[tactic(auto, using(crate::proofs::DepthLaws::deeper_is_the_same))]
 pub fn deeper_is_the_same()
     ensures { DeeperIsTheSame }
+{}
+
+/// The test of a cycle finds one exactly where some route leads back to itself by one or more links.
+#[tactic(auto, using(crate::proofs::CycleLaws::cycles_are_found))]
+pub fn cycles_are_found()
+    ensures { CyclesAreFound }
 {}

@@ -8,7 +8,7 @@ mod tracks;
 mod values;
 
 pub use desks::{
-    deeper_is_the_same, muted_is_silent, only_links_feed, plain_desk_sums,
+    cycles_are_found, deeper_is_the_same, muted_is_silent, only_links_feed, plain_desk_sums,
     solo_silences_other_tracks,
 };
 pub use files::{longer_walk_is_the_same, written_head_is_read, written_sound_is_read};

@@ -4,7 +4,7 @@ use Rattle.std.specs.Prelude.{ℤ, pos, ◌*ℤ◌}
 use Rattle.std.specs.List.{range_with_len}
 use Rattle.sound_model.specs.Numbers.{file_sample}
 use Rattle.sound_model.specs.Lanes.{Manual}
-use Rattle.sound_model.specs.Routes.{Route, input_within, master_sample}
+use Rattle.sound_model.specs.Routes.{Route, input_within, has_cycle, master_sample}
 
 -- a mono route at unity into route `target`
 abbrev mono : ℕ → Route
@@ -83,3 +83,15 @@ muted_bus = refl
 bus_clips_before_its_fader : master_sample (track_into 0 4 ∷ track_into 1 4 ∷ track_into 2 4 ∷ track_into 3 4 ∷ record (mono 5) { fader = 8192 } ∷ master ∷ []) (λ t c. pos 1073741824) 0 0 ≡ pos 268435455
 unfolding input_within
 bus_clips_before_its_fader = refl
+
+-- ---- cycles
+
+no_cycle : has_cycle (sending true) ≡ false
+no_cycle = refl
+
+-- bus 1 sends back to bus 0, which leads to it
+round_by_a_send : has_cycle (mono 1 ∷ record (mono 2) { sends = record { to = 0; pre = true; gain = 0 } ∷ [] } ∷ master ∷ []) ≡ true
+round_by_a_send = refl
+
+round_by_itself : has_cycle (track_into 0 1 ∷ mono 1 ∷ master ∷ []) ≡ true
+round_by_itself = refl

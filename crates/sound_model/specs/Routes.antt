@@ -1,7 +1,7 @@
 -- Tracks, busses and the master, and how their sound comes together (Ardour's manual, busses and sends; what is open
 -- and how one channel feeds two are own). Routes go by their place in a list: tracks, then busses, then the master.
-use Rattle.std.specs.Prelude.{ℕ, zero, suc, ◌-◌, ℤ, pos, ◌+ℤ◌, Bool, false, not, ◌&&◌, ◌||◌, ◌==◌, if◌then◌else◌, List, [], ◌∷◌, length, Option, Some, None, is_some, slice_get, IsTrue}
-use Rattle.std.specs.List.{list_any}
+use Rattle.std.specs.Prelude.{ℕ, zero, suc, ◌-◌, ℤ, pos, ◌+ℤ◌, Bool, true, false, not, ◌&&◌, ◌||◌, ◌==◌, if◌then◌else◌, List, [], ◌∷◌, length, Option, Some, None, is_some, slice_get, IsTrue}
+use Rattle.std.specs.List.{list_any, range_with_len}
 use Rattle.sound_model.specs.Numbers.{scale, clip}
 use Rattle.sound_model.specs.Lanes.{Point, Mode, gain_at}
 
@@ -51,6 +51,15 @@ pub data Reaches (routes : List Route) : ℕ → ℕ → Type 0 where
 -- no route leads back to itself
 abbrev pub NoCycle : List Route → Type 0
 NoCycle routes = (r : ℕ) → ¬ (Reaches routes r r)
+
+-- a chain of so many links, one after another, of which the last leads to a route
+abbrev pub has_chain : List Route → ℕ → ℕ → Bool
+has_chain routes zero to = true
+has_chain routes (suc long) to = list_any (λ f. links routes f to && has_chain routes long f) (range_with_len 0 (length routes))
+
+-- Some route leads back to itself: only a chain that meets a route twice has as many links as there are routes.
+abbrev pub has_cycle : List Route → Bool
+has_cycle routes = list_any (has_chain routes (length routes)) (range_with_len 0 (length routes))
 
 -- ---- what is open
 
