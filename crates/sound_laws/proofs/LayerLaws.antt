@@ -1,5 +1,5 @@
 -- Regions in layers: their order, what is hidden, what says nothing, what adds up.
-use Rattle.std.proofs.Common.{◌≡◌, ℕ, true, false, cond, refl, ap, arith, ◌∙◌, sym, List, [], ◌∷◌, ◌++◌, AllPairs, IsPermutation, subst}
+use Rattle.std.proofs.Common.{◌≡◌, ◌≤◌, get_or, ℕ, true, false, cond, refl, ap, arith, ◌∙◌, sym, List, [], ◌∷◌, ◌++◌, AllPairs, IsPermutation, subst}
 use Rattle.std.specs.Prelude.{ℤ}
 use Rattle.std.specs.List.{AllByRecursion}
 use Rattle.std.proofs.lemmas.Bool.Decides.{nat_tests}
@@ -112,8 +112,19 @@ in_pairs : (rs : List Region) → InOrder rs → InPairs rs
 in_pairs [] h = λ i j d before within. absurd (omega arith)
 in_pairs (r ∷ rs) h = AllPairs-cons (λ q s. is_below s q ≡ false) r rs (All-from_recursion (λ s. is_below s r ≡ false) rs h.0) (in_pairs rs h.1)
 
+-- what doesn't lie below another is on its layer or above, and on its layer has no lesser id
+above_is : (q r : Region) → is_below r q ≡ false → (q.layer ≤ r.layer) × (q.layer ≡ r.layer → q.id ≤ r.id)
+above_is q r h = (layers, ids)
+  where
+    layers : q.layer ≤ r.layer
+    layers = grind (arith, nat_tests)
+
+    ids : q.layer ≡ r.layer → q.id ≤ r.id
+    ids same = grind (arith, nat_tests)
+
 pub regions_stand_in_order : RegionsStandInOrder
-regions_stand_in_order regions = in_pairs (by_layer regions) (in_order_by_layer regions)
+regions_stand_in_order regions i j d before within =
+    above_is (get_or (by_layer regions) i d) (get_or (by_layer regions) j d) (in_pairs (by_layer regions) (in_order_by_layer regions) i j d before within)
 
 kept_with : (r : Region) (qs : List Region) → Joins r qs (with_region r qs) → IsPermutation (r ∷ qs) (with_region r qs)
 kept_with r qs h = rw (h.after, h.before) (IsPermutation-sym _ _ (IsPermutation-middle h.low r h.high))

@@ -1,5 +1,5 @@
 -- What is said of regions in layers.
-use Rattle.std.specs.Prelude.{◌≡◌, ◌≢◌, ℕ, ◌-◌, ℤ, pos, ◌+ℤ◌, true, false, List, [], ◌∷◌, ◌++◌, AllPairs, IsPermutation}
+use Rattle.std.specs.Prelude.{◌≡◌, ◌≢◌, ℕ, ◌-◌, ◌≤◌, ℤ, pos, ◌+ℤ◌, true, false, List, [], ◌∷◌, ◌++◌, AllPairs, IsPermutation}
 use Rattle.std.specs.List.{AllByRecursion}
 use Rattle.sound_model.specs.Numbers.{unity, clip}
 use Rattle.sound_model.specs.Regions.{Region, Sounds, covers, fade, region_sample}
@@ -22,7 +22,7 @@ sum_of_regions sounds c x [] = pos 0
 sum_of_regions sounds c x (r ∷ rs) = region_sample sounds r c x +ℤ sum_of_regions sounds c x rs
 
 abbrev pub RegionsStandInOrder : Type 0
-RegionsStandInOrder = (regions : List Region) → AllPairs (λ q r. is_below r q ≡ false) (by_layer regions)
+RegionsStandInOrder = (regions : List Region) → AllPairs (λ q r. (q.layer ≤ r.layer) × (q.layer ≡ r.layer → q.id ≤ r.id)) (by_layer regions)
 
 abbrev pub RegionsAreKept : Type 0
 RegionsAreKept = (regions : List Region) → IsPermutation regions (by_layer regions)

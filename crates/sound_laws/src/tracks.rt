@@ -2,7 +2,8 @@
 
 ghost use Rattle.sound_laws.specs.Tracks.{RegionsStandInOrder, RegionsAreKept, ListingSaysNothing, HidesAllBelow, BelowIsUnheard, ElsewhereSaysNothing, TransparentRegionsAddUp};
 
-/// Regions are heard by layer, and within a layer by id: none stands before one that lies below it.
+/// Regions are heard by layer, and within a layer by id: of two, the one that stands first is on a lower layer, or
+/// on the same layer with the lesser id.
 #[tactic(auto, using(crate::proofs::LayerLaws::regions_stand_in_order))]
 pub fn regions_stand_in_order()
     ensures { RegionsStandInOrder }
