@@ -1,6 +1,22 @@
-//! The small values that every layer speaks of: gains, names, points and lanes, and the numbers of a sample.
+//! The small values that every layer speaks of: gains, names, lanes and the numbers of a sample.
 #![tactic(auto)]
 
 mod bits;
+mod gain;
+mod lane;
+mod mode;
+mod name;
+mod number;
+mod point;
+mod refusal;
+#[cfg(test)]
+mod tests;
 
 pub use bits::Bits;
+pub use gain::{Gain, TooLoud};
+pub use lane::{Lane, LaneFull, NoPoint};
+pub use mode::Mode;
+pub use name::{Name, NotName};
+pub use number::{clip, file_sample, scale};
+pub use point::Point;
+pub use refusal::LaneRefusal;

@@ -1,6 +1,6 @@
 -- The proofs of the laws.
 mod Cases
-mod NumberLaws
+pub mod NumberLaws
 mod FadeLaws
 mod LaneLaws
 mod DeskLaws
@@ -8,7 +8,7 @@ mod DepthLaws
 pub mod CycleLaws
 mod PlainLaws
 mod WalkLaws
-mod WrittenLaws
+pub mod WrittenLaws
 mod SoundLaws
 mod LayerLaws
 mod SilenceLaws

@@ -1,6 +1,6 @@
 -- A WAV file as a whole list of bytes (RIFF WAVE 1.0, and this project's own rules of what is read).
 -- A chunk is four bytes of name, four of size with the low byte first, that many bytes, and a pad byte after an odd number.
-use Rattle.std.specs.Prelude.{ℕ, zero, suc, ◌+◌, ◌-◌, ◌*◌, ◌/◌, ◌%◌, ℤ, pos, Bool, not, ◌&&◌, ◌||◌, ◌==◌, nat_lt, nat_le, if◌then◌else◌, List, ◌++◌, length, take, drop, replicate, flat_map, Option, Some, None, Result, Ok, Err, codes, bytes_eq}
+use Rattle.std.specs.Prelude.{ℕ, zero, suc, ◌+◌, ◌-◌, ◌*◌, ◌/◌, ◌%◌, ℤ, pos, Bool, true, not, ◌&&◌, ◌||◌, ◌==◌, nat_lt, nat_le, if◌then◌else◌, List, ◌++◌, length, take, drop, replicate, flat_map, Option, Some, None, Result, Ok, Err, codes, bytes_eq}
 use Rattle.std.specs.Int.{w16, w32, to_le_bytes}
 use Rattle.sound_model.specs.Numbers.{number, sample_at, sample_bytes}
 
@@ -124,6 +124,14 @@ unfoldable pub sound : Head → List ℕ → ℕ → ℕ → ℤ
 sound h b i c = let frame = h.data_at + i * align h.form in
     if nat_lt i h.frames && nat_lt c h.form.channels && nat_le (frame + align h.form) (length b)
     then sample_at h.form.bits (drop (frame + c * (h.form.bits / 8)) b) else pos 0
+
+abbrev pub sound_by : Result Head Refusal → List ℕ → ℕ → ℕ → ℤ
+sound_by (Ok h) b i c = sound h b i c
+sound_by (Err e) b i c = pos 0
+
+-- the sample of frame i and channel c of a whole file, by its own head; a file that isn't read is silent
+abbrev pub file_sound : List ℕ → ℕ → ℕ → ℤ
+file_sound b i c = sound_by (head true b) b i c
 
 -- the 44 bytes before so many bytes of sound
 unfoldable pub header : Form → ℕ → List ℕ
