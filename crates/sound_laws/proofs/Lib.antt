@@ -1,5 +1,5 @@
 -- The proofs of the laws.
-mod Cases
+pub mod Cases
 pub mod NumberLaws
 mod FadeLaws
 mod LaneLaws

@@ -1,5 +1,5 @@
 -- A file that was written is read back: its head, and its sound.
-use Rattle.std.proofs.Common.{◌≡◌, ℕ, zero, suc, ◌+◌, ◌-◌, ◌*◌, ◌/◌, ◌%◌, ◌^◌, ◌≤◌, ◌<◌, ◌⊎◌, inl, inr, Bool, true, false, cond, ◌&&◌, ◌||◌, nat_lt, nat_le, refl, ap, arith, ◌∙◌, sym, List, [], ◌∷◌, length, drop, replicate, Some, None, Ok}
+use Rattle.std.proofs.Common.{◌≡◌, ℕ, zero, suc, ◌+◌, ◌-◌, ◌*◌, ◌/◌, ◌%◌, ◌^◌, ◌≤◌, ◌<◌, ◌⊎◌, inl, inr, Bool, true, false, cond, ◌&&◌, ◌||◌, nat_lt, nat_le, refl, ap, arith, ◌∙◌, sym, List, [], ◌∷◌, ◌++◌, length, drop, replicate, Some, None, Ok}
 use Rattle.std.specs.Prelude.{codes, not, ℤ, ◌==◌}
 use Rattle.std.specs.Int.{bytes_low_first}
 use Rattle.std.proofs.lemmas.List.{length-append}
@@ -170,3 +170,32 @@ written_head_is_read told form samples h =
     head_stands told (canon form samples) form (length samples * (form.bits / 8)) samples
     (canon_stands form samples (length samples * (form.bits / 8)) h (length-sound_bytes form.bits samples) h.fits) h
     ∙ ap (λ n. Ok (record { form = form; data_at = 44; frames = n })) (frames_are form samples h)
+
+-- ---- a header with anything behind it
+
+header_stands : (form : Form) (bytes : ℕ) (rest : List ℕ) → IsWritten form [] → 36 + bytes + bytes % 2 < 2 ^ 32 → bytes ≤ length rest →
+    Stands (header form bytes ++ rest) form bytes
+unfolding header
+header_stands form bytes rest h size enough = let f : Fields form = fields form [] h in
+    let all : bytes < 2 ^ 32 = omega arith in record {
+      riff = refl;
+      wave = refl;
+      format = refl;
+      no_data = refl;
+      data_after = refl;
+      told = omega (arith, from_le_bytes-to_le_bytes_4 _ size);
+      sixteen = refl;
+      tag = refl;
+      channels = from_le_bytes-to_le_bytes_2 form.channels f.channels;
+      rate = from_le_bytes-to_le_bytes_4 form.rate f.rate;
+      block = from_le_bytes-to_le_bytes_2 (align form) f.block;
+      bits = from_le_bytes-to_le_bytes_2 form.bits f.bits;
+      size = from_le_bytes-to_le_bytes_4 bytes all;
+      whole = omega arith;
+    }
+
+-- the head of a file that begins with a written header
+pub header_is_read : (told : Bool) (form : Form) (bytes : ℕ) (rest : List ℕ) → IsWritten form [] → 36 + bytes + bytes % 2 < 2 ^ 32 → bytes ≤ length rest →
+    head told (header form bytes ++ rest) ≡ Ok (record { form = form; data_at = 44; frames = bytes / align form })
+header_is_read told form bytes rest h size enough =
+    head_stands told (header form bytes ++ rest) form bytes [] (header_stands form bytes rest h size enough) h

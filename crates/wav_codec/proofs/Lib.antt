@@ -1,0 +1,5 @@
+-- Lemmas of the codec.
+pub mod Samples
+pub mod Pieces
+pub mod Walk
+pub mod Steps
