@@ -1,0 +1,8 @@
+-- What the outside holds, how often it failed, and what each call does to both.
+pub mod Faults
+pub mod Streams
+pub mod Files
+pub mod Calls
+pub mod Stored
+pub mod Memory
+pub mod FixedList

@@ -1,0 +1,89 @@
+//! A file of the system as a source.
+ghost use Rattle.std.specs.Prelude.{◌≡◌, ◌≤◌, length, IfOk};
+
+use crate::{Failed, Source, tries};
+use std::fs;
+use std::io::ErrorKind;
+use std::marker::Model;
+use std::rt::Files;
+
+/// A file that is opened at the first read, and reads as an empty one where it is absent then.
+/// Contracts see it as its count of faults.
+#[derive(Drop)]
+pub struct FileSource<R: Files> {
+    rt: R,
+    path: String,
+    file: Opened<R::File>,
+    faults: u64,
+}
+
+#[derive(Drop)]
+enum Opened<F> {
+    NotYet,
+    Absent,
+    File(F),
+}
+
+impl<R: Files> Model for FileSource<R> {
+    ghost use Rattle.std.specs.Prelude.{ℕ};
+
+    ghost Value = { ℕ };
+
+    ghost view = { λ s. s.faults };
+}
+
+impl<R: Files + Drop> FileSource<R> {
+    /// A source of the file at that path, which isn't opened yet.
+    pub fn new(rt: R, path: String) -> FileSource<R>
+        ensures { result ≡ 0 }
+    {
+        FileSource {
+            rt,
+            path,
+            file: Opened::NotYet,
+            faults: 0,
+        }
+    }
+
+    fn open(&mut self) -> Result<(), Failed>
+        ensures { self.new ≡ self.old }
+    {
+        if let Opened::NotYet = &self.file {
+            self.file = match fs::open(&self.rt, self.path.as_str()) {
+                Ok(file) => Opened::File(file),
+                Err(e) if e.kind() == ErrorKind::NotFound => Opened::Absent,
+                Err(_) => return Err(Failed),
+            };
+        }
+        Ok(())
+    }
+
+    fn read_opened(&mut self, buf: &mut [u8]) -> Result<usize, Failed>
+        ensures count { IfOk result (λ n. n ≤ length buf.new) }
+        ensures faults { self.new ≡ self.old }
+    {
+        self.open()?;
+        match &mut self.file {
+            Opened::File(file) => tries::read(file, buf),
+            Opened::NotYet | Opened::Absent => Ok(0),
+        }
+    }
+}
+
+impl<R: Files + Drop> Source for FileSource<R> {
+    ghost use Rattle.std.specs.Prelude.{[]};
+
+    ghost tells = { ⊥ };
+
+    ghost left = { λ _. [] };
+
+    ghost faults = { λ s. s };
+
+    fn read(&mut self, buf: &mut [u8]) -> Result<usize, Failed> {
+        let result = self.read_opened(buf);
+        if result.is_err() {
+            self.faults = self.faults.saturating_add(1);
+        }
+        result
+    }
+}
