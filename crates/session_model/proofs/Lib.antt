@@ -1,0 +1,11 @@
+-- The tests of a session are the facts, lemmas on playlists and frames, and worked values.
+mod Cases
+mod TestLemmas
+pub mod ValidityLaws
+mod PlaceLemmas
+pub mod PlaylistLemmas
+mod FrameLemmas
+mod FileNameVectors
+mod SessionVectors
+mod BrokenVectors
+mod SoundVectors

@@ -1,0 +1,69 @@
+-- A small session as a value, which is valid.
+use Rattle.std.proofs.Common.{◌≡◌, ℕ, List, [], ◌∷◌, ◌++◌, refl, true, false, Option, Some, None, codes}
+use Rattle.sound_model.specs.Regions as sound
+use Rattle.ses_units.specs.declared.bits.Bits.TheVariants.{B16}
+use Rattle.ses_units.specs.declared.mode.Mode.TheVariants.{Manual}
+use Rattle.ses_io.specs.FixedList.{Listed}
+use Rattle.session_model.specs.declared.route.SendLink.{SendLink}
+use Rattle.session_model.specs.declared.route.RouteKind.{RouteKind}
+use Rattle.session_model.specs.declared.route.RouteKind.TheVariants.{Track as OfTrack, Master}
+use Rattle.session_model.specs.declared.route.Route.{Route}
+use Rattle.session_model.specs.declared.track.Track.{Track}
+use Rattle.session_model.specs.declared.session.SourceDecl.{SourceDecl}
+use Rattle.session_model.specs.declared.session.Session.{Session}
+use Rattle.session_model.specs.Tests.{is_formed, is_valid}
+
+abbrev pub listed : {X : Type 0} → List X → Listed X
+listed items = record { items = items; room = 64 }
+
+-- ---- the base: source `a`, track `t` with one region of it, into the master
+
+abbrev pub source : List ℕ → SourceDecl
+source name = record { name = name; file = name ++ codes ".wav"; channels = 1 }
+
+abbrev pub whole : sound.Region
+whole = record { id = 1; source = 0; start = 0; long = 8; at = 0; layer = 0; gain = 65536; opaque = true; fade_in = 0; fade_out = 0 }
+
+abbrev pub send_to : ℕ → SendLink
+send_to to = record { to = to; pre = false; gain = 65536 }
+
+-- a mono route at unity
+abbrev pub route : List ℕ → RouteKind → Option ℕ → Route
+route name kind target = record {
+  name = name;
+  kind = kind;
+  channels = 1;
+  fader = 65536;
+  mode = Manual;
+  lane = [];
+  muted = false;
+  left = 65536;
+  right = 65536;
+  target = target;
+  sends = listed [];
+}
+
+abbrev pub master : Route
+master = route (codes "master") Master None
+
+abbrev pub track : ℕ → List sound.Region → Track
+track route regions = record { route = route; solo = false; armed = false; input = Some 0; list = regions }
+
+abbrev pub session : List SourceDecl → List Route → List Track → Session
+session sources routes tracks = record {
+  rate = 48000;
+  bits = B16;
+  block = 4;
+  depth = 2;
+  takes = codes "take";
+  sources = listed sources;
+  routes = listed routes;
+  tracks = listed tracks;
+}
+
+abbrev pub base : Session
+base = session (source (codes "a") ∷ []) (route (codes "t") (OfTrack 0) (Some 1) ∷ master ∷ []) (track 0 (whole ∷ []) ∷ [])
+
+base_is_valid : is_valid base ≡ true
+unfolding is_formed is_valid
+base_is_valid = refl
