@@ -3,9 +3,12 @@ mod Cases
 mod TestLemmas
 pub mod ValidityLaws
 mod PlaceLemmas
+mod WriteLemmas
 pub mod PlaylistLemmas
 mod FrameLemmas
 mod FileNameVectors
 mod SessionVectors
-mod BrokenVectors
+mod BrokenNumbers
+mod BrokenLinks
+mod ValidVectors
 mod SoundVectors

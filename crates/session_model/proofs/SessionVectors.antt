@@ -1,12 +1,12 @@
 -- A small session as a value, which is valid.
-use Rattle.std.proofs.Common.{◌≡◌, ℕ, List, [], ◌∷◌, ◌++◌, refl, true, false, Option, Some, None, codes}
+use Rattle.std.proofs.Common.{◌+◌, ◌/◌, ◌%◌, ◌≡◌, ℕ, List, [], ◌∷◌, ◌++◌, refl, true, false, Option, Some, None, codes}
 use Rattle.sound_model.specs.Regions as sound
 use Rattle.ses_units.specs.declared.bits.Bits.TheVariants.{B16}
 use Rattle.ses_units.specs.declared.mode.Mode.TheVariants.{Manual}
 use Rattle.ses_io.specs.FixedList.{Listed}
 use Rattle.session_model.specs.declared.route.SendLink.{SendLink}
 use Rattle.session_model.specs.declared.route.RouteKind.{RouteKind}
-use Rattle.session_model.specs.declared.route.RouteKind.TheVariants.{Track as OfTrack, Master}
+use Rattle.session_model.specs.declared.route.RouteKind.TheVariants.{Track as OfTrack, Bus, Master}
 use Rattle.session_model.specs.declared.route.Route.{Route}
 use Rattle.session_model.specs.declared.track.Track.{Track}
 use Rattle.session_model.specs.declared.session.SourceDecl.{SourceDecl}
@@ -67,3 +67,32 @@ base = session (source (codes "a") ∷ []) (route (codes "t") (OfTrack 0) (Some 
 base_is_valid : is_valid base ≡ true
 unfolding is_formed is_valid
 base_is_valid = refl
+
+-- ---- its parts, to be changed
+
+abbrev pub a : SourceDecl
+a = source (codes "a")
+
+-- a mono track into the route at a place
+abbrev pub t : ℕ → Route
+t to = route (codes "t") (OfTrack 0) (Some to)
+
+abbrev pub bus : List ℕ → ℕ → Route
+bus name to = route name Bus (Some to)
+
+-- the base with these routes
+abbrev pub desk : List Route → Session
+desk routes = session (a ∷ []) routes (track 0 (whole ∷ []) ∷ [])
+
+-- the base with this track
+abbrev pub with_track : Track → Session
+with_track k = session (a ∷ []) (t 1 ∷ master ∷ []) (k ∷ [])
+
+-- a name for each number below 100: `n00`, `n01` and so on
+abbrev pub numbered : ℕ → List ℕ
+numbered i = 110 ∷ (48 + i / 10) ∷ (48 + i % 10) ∷ []
+
+-- a stereo track takes two of the input's channels
+abbrev pub stereo : ℕ → Session
+stereo first = session (record a { channels = 2 } ∷ []) (record (t 1) { channels = 2 } ∷ record master { channels = 2 } ∷ [])
+    (record (track 0 (whole ∷ [])) { input = Some first } ∷ [])

@@ -48,7 +48,8 @@ fn are_file_bytes(bytes: &[u8]) -> bool
     bytes.iter().all(|b| is_file_byte(*b))
 }
 
-fn is_file_name(bytes: &[u8]) -> bool
+/// Whether the bytes keep the rule of a file's name.
+pub fn is_file_name(bytes: &[u8]) -> bool
     ensures { result ≡ is_file_name bytes.now }
 {
     if bytes.is_empty() || bytes.len() > 255 || !are_file_bytes(bytes) {

@@ -18,7 +18,7 @@ mod session;
 mod track;
 
 pub use edit::Edit;
-pub use file_name::{FileName, FileNameRefusal};
+pub use file_name::{FileName, FileNameRefusal, is_file_name};
 pub use frames::Frames;
 pub use key::Key;
 pub use laws::{form_is_tested, playlists_are_in_order, validity_is_tested};

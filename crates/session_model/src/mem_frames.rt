@@ -20,11 +20,13 @@ pub struct MemFrames {
 }
 
 impl Model for MemFrames {
+    ghost use Rattle.ses_io.specs.Calls.{Plan};
     ghost use Rattle.session_model.specs.MemFrames.{FramesState};
 
     ghost Value = { FramesState };
 
-    ghost view = { λ m. record { sources = m.sources.items; plan = record { calls = m.calls; fails = m.fails.items }; faults = m.faults } };
+    ghost view = { λ m. let plan : Plan = record { calls = m.calls; fails = m.fails.items } in
+        record { sources = m.sources.items; plan = plan; faults = m.faults } };
 }
 
 impl MemFrames {

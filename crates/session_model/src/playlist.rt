@@ -44,7 +44,7 @@ impl Playlist {
         })
     }
 
-    /// Puts a region at its place by layer, then by id.
+    /// Puts a region at its place by layer, then by id. It takes no memory.
     pub fn insert(&mut self, r: Region)
         requires room { length self.old < 256 }
         requires fresh { IsFalse (has_region self.old r.id) }
@@ -56,7 +56,7 @@ impl Playlist {
         put_last_at(self.list.as_mut_slice(), place);
     }
 
-    /// Takes the region of that id out, None exactly where no region has it.
+    /// Takes the region of that id out, None exactly where no region has it. It takes no memory.
     pub fn remove(&mut self, id: u32) -> Option<Region>
         ensures region { option_map region_of result ≡ find (has_id id) self.old }
         ensures others { self.new ≡ without_region self.old id }

@@ -1,7 +1,7 @@
 -- No region lies above past the end.
 use Rattle.std.proofs.Common.{◌∙◌, ap, length}
 use Rattle.std.specs.Option.{unwrap_or}
-use Rattle.session_model.proofs.PlaceLemmas.{unwrap_or-position}
+use Rattle.session_model.proofs.WriteLemmas.{unwrap_or-position}
 use Rattle.session_model.proofs.places.place_of.Goals as goal
 
 pub returns-clause-place : goal.returns-clause-place

@@ -7,7 +7,7 @@ use Rattle.ses_io.specs.FixedList.{Listed}
 use Rattle.session_model.specs.declared.region.Region.{Region}
 use Rattle.session_model.specs.Region.{region_of}
 use Rattle.session_model.specs.Playlist.{IsPlaylist}
-use Rattle.session_model.proofs.PlaceLemmas.{regions_of-inserted}
+use Rattle.session_model.proofs.WriteLemmas.{regions_of-inserted}
 use Rattle.session_model.proofs.PlaylistLemmas.{IsPlaylist-with_region}
 use Rattle.session_model.proofs.playlist.Playlist.insert.Goals as goal
 

@@ -4,7 +4,8 @@ use Rattle.std.specs.Option.{option_map}
 use Rattle.session_model.specs.Region.{region_of, regions_of}
 use Rattle.session_model.specs.Playlist.{IsPlaylist, has_id, has_region, without_region}
 use Rattle.session_model.proofs.Cases.{false_is_true}
-use Rattle.session_model.proofs.PlaceLemmas.{position-found, position-absent, removed, without_region-remove, without_region-absent, find-at, find-absent, has_region-at, has_region-absent}
+use Rattle.session_model.proofs.PlaceLemmas.{without_region-remove, without_region-absent, find-at, find-absent, has_region-at, has_region-absent}
+use Rattle.session_model.proofs.WriteLemmas.{position-found, position-absent, removed}
 use Rattle.session_model.proofs.PlaylistLemmas.{IsPlaylist-without_region}
 use Rattle.session_model.proofs.playlist.Playlist.remove.Goals as goal
 
