@@ -12,8 +12,8 @@ pub enum FileRefusal {
     Absent,
 }
 
-/// How a run ended (own). Later ones come only where none before them does, but for NoMemory, which
-/// may stand in place of all but Usage.
+/// How a run ended (own). NoMemory may stand in place of all but Usage; MasterFault comes only
+/// where nothing else is wrong.
 #[derive(Clone, Copy, Debug, PartialEq, Eq)]
 pub enum Status {
     /// All was written, and no count of faults rose. Its number is 0.
