@@ -7,7 +7,7 @@ mod WriteLemmas
 pub mod PlaylistLemmas
 mod FrameLemmas
 mod FileNameVectors
-mod SessionVectors
+pub mod SessionVectors
 mod BrokenNumbers
 mod BrokenLinks
 mod ValidVectors

@@ -1,0 +1,10 @@
+-- What the laws of the engine's definitions say, and the words that only they need.
+pub mod Kept
+pub mod Tracked
+pub mod Entered
+pub mod Marks
+pub mod EditionLaws
+pub mod OrderLaws
+pub mod HeardLaws
+pub mod NumbersLaws
+pub mod JournalLaws

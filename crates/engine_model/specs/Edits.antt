@@ -1,0 +1,72 @@
+-- What a list of accepted edits says of playlists and generations (own). Edits count from 1: edition k is the state
+-- after the first k of them.
+use Rattle.std.specs.Prelude.{ℕ, zero, suc, Bool, true, false, if◌then◌else◌, List, [], ◌∷◌, Option, Some, None, slice_get}
+use Rattle.std.specs.Option.{option_map_or}
+use Rattle.std.specs.Str.{bytes_eq}
+use Rattle.session_model.specs.declared.session.Session.{Session}
+use Rattle.session_model.specs.declared.edit.Edit.{Edit}
+use Rattle.session_model.specs.declared.edit.Edit.TheVariants.{Quit, Locate, Loop, LoopOff, Add, Remove, Move, Trim, Layer, Opaque, RegionGain, Fade}
+
+-- ---- one edit
+
+-- the track whose playlist a region command changes, by its name; none of another command
+abbrev pub region_track : Edit → Option (List ℕ)
+region_track (Add track id source start long at layer) = Some track
+region_track (Remove track id) = Some track
+region_track (Move track id at) = Some track
+region_track (Trim track id start long) = Some track
+region_track (Layer track id layer) = Some track
+region_track (Opaque track id on) = Some track
+region_track (RegionGain track id gain) = Some track
+region_track (Fade track id fade_in fade_out) = Some track
+region_track _ = None
+
+-- the name of a track is the name of its route
+abbrev pub is_named : Session → ℕ → List ℕ → Bool
+is_named session t name = option_map_or (λ q. bytes_eq q.name name) (slice_get session.routes.items t) false
+
+-- the edit is a region command on track t
+abbrev pub touches : Session → ℕ → Edit → Bool
+touches session t edit = option_map_or (is_named session t) (region_track edit) false
+
+-- the edit starts a generation
+abbrev pub starts : Edit → Bool
+starts (Locate to) = true
+starts (Loop from to) = true
+starts LoopOff = true
+starts _ = false
+
+abbrev pub is_quit : Edit → Bool
+is_quit Quit = true
+is_quit _ = false
+
+-- ---- the first k edits of a list
+
+-- the edit at a place, counted from 0, has a property; false past the end
+abbrev pub holds_at : (Edit → Bool) → List Edit → ℕ → Bool
+holds_at f [] k = false
+holds_at f (e ∷ es) zero = f e
+holds_at f (e ∷ es) (suc k) = holds_at f es k
+
+-- the number of the last of the first k edits that has a property, else 0
+abbrev pub last_where : (Edit → Bool) → List Edit → ℕ → ℕ
+last_where f edits zero = 0
+last_where f edits (suc k) = if holds_at f edits k then suc k else last_where f edits k
+
+-- how many of the first k edits have a property
+abbrev pub count_where : (Edit → Bool) → List Edit → ℕ → ℕ
+count_where f edits zero = 0
+count_where f edits (suc k) = if holds_at f edits k then suc (count_where f edits k) else count_where f edits k
+
+-- the number of the last of the first k edits that is a region command on track t, else 0
+abbrev pub playlist_edition : Session → List Edit → ℕ → ℕ → ℕ
+playlist_edition session edits t k = last_where (touches session t) edits k
+
+-- how many of the first k edits start a generation
+abbrev pub generation : List Edit → ℕ → ℕ
+generation edits k = count_where starts edits k
+
+-- a quit is among the first k edits
+abbrev pub has_quit : List Edit → ℕ → Bool
+has_quit edits zero = false
+has_quit edits (suc k) = if holds_at is_quit edits k then true else has_quit edits k
