@@ -1,0 +1,2 @@
+-- The place after a frame's is that of the next frame.
+pub mod PlaceLemmas

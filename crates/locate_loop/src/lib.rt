@@ -1,0 +1,10 @@
+//! The transport of an edition, and the places of a generation's frames, also round a loop.
+#![tactic(auto)]
+
+mod frames;
+#[cfg(test)]
+mod tests;
+mod transport;
+
+pub use frames::places;
+pub use transport::{Transport, Wrap};
