@@ -1,0 +1,28 @@
+-- The routes that lead back to themselves, and the links that would make such.
+use Rattle.std.specs.Prelude.{◌≡◌, ℕ, zero, suc, ◌<◌, ◌⊎◌, Bool, ◌&&◌, ◌||◌, List, length, Option, position}
+use Rattle.std.specs.List.{range_with_len}
+use Rattle.sound_model.specs.Routes.{Route, Reaches, links}
+
+-- one route leads to another by one or more links, and all routes between them stand at places below `high`
+unfoldable pub reaches_below : List Route → ℕ → ℕ → ℕ → Bool
+reaches_below routes zero from to = links routes from to
+reaches_below routes (suc high) from to =
+    reaches_below routes high from to || (reaches_below routes high from high && reaches_below routes high high to)
+
+-- one route leads to another by one or more links
+unfoldable pub reaches : List Route → ℕ → ℕ → Bool
+reaches routes from to = reaches_below routes (length routes) from to
+
+-- the first route, in their order, that leads back to itself
+unfoldable pub first_on_cycle : List Route → Option ℕ
+first_on_cycle routes = position (λ r. reaches routes r r) (range_with_len 0 (length routes))
+
+-- The first route that leads back to itself.
+pub record IsFirstOnCycle (routes : List Route) (r : ℕ) : Type 0 where
+  pub on_cycle : Reaches routes r r
+  -- no route before it does
+  pub first : (q : ℕ) → q < r → ¬ (Reaches routes q q)
+
+-- A link from one route to another would close a cycle: they are one, or the second leads to the first already.
+abbrev pub Closes : List Route → ℕ → ℕ → Type 0
+Closes routes from to = (from ≡ to) ⊎ Reaches routes to from

@@ -1,0 +1,19 @@
+//! What holds of the routes of every session: the tests that compute are the facts.
+ghost use Rattle.route_graph.specs.Laws.{ReachingIsTested, FirstOnCycleIsFound, NoneIsFoundWithoutCycle};
+
+/// The test `reaches` passes exactly where one route leads to the other by one or more links.
+#[tactic(auto, using(crate::proofs::CycleLaws::reaching_is_tested))]
+pub fn reaching_is_tested()
+    ensures { ReachingIsTested }
+{}
+
+/// `first_on_cycle` is some route exactly where that is the first that leads back to itself.
+pub fn first_on_cycle_is_found()
+    ensures { FirstOnCycleIsFound }
+{}
+
+/// `first_on_cycle` is none exactly where no route leads back to itself.
+#[tactic(auto, using(crate::proofs::CycleLaws::none_is_found_without_cycle))]
+pub fn none_is_found_without_cycle()
+    ensures { NoneIsFoundWithoutCycle }
+{}

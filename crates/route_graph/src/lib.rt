@@ -1,0 +1,16 @@
+//! The graph of a session's routes: an order with feeders first, and the links that would close a cycle.
+#![tactic(auto)]
+
+mod feeders;
+mod laws;
+mod list;
+mod ordering;
+mod places;
+mod reach;
+mod refusal;
+
+pub use laws::{first_on_cycle_is_found, none_is_found_without_cycle, reaching_is_tested};
+pub use list::Order;
+pub use ordering::order;
+pub use reach::closes;
+pub use refusal::OrderRefusal;
