@@ -1,2 +1,10 @@
 -- The proofs of the laws and what the walks rest on.
 pub mod CycleLaws
+pub mod PlaceLaws
+pub mod GraphLaws
+pub mod WalkLaws
+pub mod SpreadLaws
+pub mod ReachLaws
+pub mod FeedLaws
+pub mod PeelLaws
+pub mod OrderLaws

@@ -1,5 +1,5 @@
 -- What the walks over the links of a session find.
-use Rattle.std.specs.Prelude.{◌≡◌, ℕ, zero, suc, ◌+◌, ◌<◌, ◌==◌, true, false, if◌then◌else◌, List, [], ◌∷◌, length, take, count_by, slice_get, slice_index, Some, IfSome, All, IsTrue}
+use Rattle.std.specs.Prelude.{◌≡◌, ℕ, suc, ◌+◌, ◌<◌, ◌==◌, true, false, if◌then◌else◌, List, [], ◌∷◌, length, take, count_by, slice_get, slice_index, Some, IfSome, All, IsTrue}
 use Rattle.sound_model.specs.Routes as sound
 use Rattle.session_model.specs.declared.route.Route.{Route}
 use Rattle.session_model.specs.Views.{route_of}
@@ -26,6 +26,7 @@ waiting f (q ∷ qs) done t = (if stands done f then 0 else ways q t) + waiting 
 -- Placed are the routes to which no counted link leads.
 pub record IsSettled (counts places : List ℕ) : Type 0 where
   pub zero : (t : ℕ) → t < length counts → stands places t ≡ (slice_index counts t == 0)
+  pub once : AreOnce places
   -- each is counted
   pub low : (t : ℕ) → stands places t ≡ true → t < length counts
 

@@ -25,14 +25,22 @@ fn count_links(route: &Route, counts: &mut [u32])
     }
 }
 
+fn clear(counts: &mut [u32])
+    ensures { (t : ℕ) → t < length counts.old → slice_index counts.new t ≡ 0 }
+{
+    for count in counts.iter_mut() {
+        *count = 0;
+    }
+}
+
 // Counts the links of all routes at the routes that they lead to.
 fn count_all(s: &Session, counts: &mut [u32])
     requires formed { IsFormed s.now }
     requires long { length counts.old ≡ length s.now.routes.items }
-    requires none { (t : ℕ) → slice_index counts.old t ≡ 0 }
     ensures { (t : ℕ) → t < length counts.old → slice_index counts.new t
         ≡ waiting 0 (routes_of s.now) [] t }
 {
+    clear(counts);
     let routes = s.routes.as_slice();
     for route in routes {
         count_links(route, counts);

@@ -26,7 +26,8 @@ impl Model for Places {
 impl Places {
     /// No place.
     pub fn new() -> Places
-        ensures { result ≡ [] }
+        ensures none { result ≡ [] }
+        ensures once { AreOnce result }
     {
         Places {
             list: [0; 64],
@@ -45,7 +46,8 @@ impl Places {
 
     pub fn has(&self, place: u32) -> bool
         requires { place < 64 }
-        ensures { result ≡ stands self.now place }
+        ensures stands { result ≡ stands self.now place }
+        ensures once { AreOnce self.now }
     {
         self.among[place as usize]
     }
@@ -54,7 +56,8 @@ impl Places {
     pub fn push(&mut self, place: u32)
         requires low { place < 64 }
         requires fresh { stands self.old place ≡ false }
-        ensures { self.new ≡ self.old ++ place ∷ [] }
+        ensures places { self.new ≡ self.old ++ place ∷ [] }
+        ensures once { AreOnce self.new }
     {
         self.list[self.long] = place;
         self.long += 1;
@@ -64,7 +67,8 @@ impl Places {
     /// Adds a place at the end, unless it stands already.
     pub fn note(&mut self, place: u32)
         requires { place < 64 }
-        ensures { self.new ≡ with_place self.old place }
+        ensures places { self.new ≡ with_place self.old place }
+        ensures once { AreOnce self.new }
     {
         if !self.has(place) {
             self.push(place);

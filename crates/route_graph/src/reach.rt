@@ -4,7 +4,7 @@ ghost use Rattle.sound_model.specs.Routes.{Reaches, feeds};
 ghost use Rattle.session_model.specs.Formed.{IsFormed};
 ghost use Rattle.session_model.specs.Views.{routes_of};
 ghost use Rattle.route_graph.specs.Cycles.{Closes};
-ghost use Rattle.route_graph.specs.Places.{stands, StartsWith};
+ghost use Rattle.route_graph.specs.Places.{stands, AreOnce, StartsWith};
 ghost use Rattle.route_graph.specs.Walks.{plain, LinksBelow};
 
 use crate::places::Places;
@@ -14,6 +14,7 @@ use session_model::{Route, Session};
 fn spread(route: &Route, found: &mut Places)
     requires { LinksBelow 64 route.now }
     ensures starts { StartsWith found.new found.old }
+    ensures once { AreOnce found.old → AreOnce found.new }
     ensures stand { (t : ℕ) → stands found.new t
         ≡ (stands found.old t || feeds (plain route.now) t) }
 {
