@@ -7,4 +7,5 @@ pub mod SpreadLaws
 pub mod ReachLaws
 pub mod FeedLaws
 pub mod PeelLaws
+pub mod TestLaws
 pub mod OrderLaws

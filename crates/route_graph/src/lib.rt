@@ -14,3 +14,6 @@ pub use list::Order;
 pub use ordering::order;
 pub use reach::closes;
 pub use refusal::OrderRefusal;
+
+#[cfg(test)]
+mod tests;
