@@ -7,6 +7,7 @@ ghost use Rattle.route_graph.specs.Order.{IsOrder};
 use crate::feeders::peeled;
 use crate::places::Places;
 use crate::refusal::OrderRefusal;
+use ses_io::{NoMemory, Twin};
 use session_model::Session;
 use std::alloc::Global;
 use std::marker::Model;
@@ -41,6 +42,14 @@ impl Order {
     {
         let places = peeled(s);
         self.routes.copy_from_slice(places.as_slice());
+    }
+}
+
+impl Twin for Order {
+    fn twin(&self, alloc: Global) -> Result<Self, NoMemory> {
+        Ok(Order {
+            routes: self.routes.to_vec(alloc)?,
+        })
     }
 }
 

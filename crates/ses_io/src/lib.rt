@@ -20,6 +20,7 @@ mod shelf;
 mod sink;
 mod source;
 mod tries;
+mod twin;
 mod world;
 mod write_sink;
 
@@ -35,6 +36,7 @@ pub use mem_source::MemSource;
 pub use read_source::ReadSource;
 pub use sink::{Sink, write_all};
 pub use source::{Source, read_full};
+pub use twin::Twin;
 pub use world::World;
 pub use write_sink::WriteSink;
 

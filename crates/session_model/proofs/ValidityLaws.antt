@@ -67,11 +67,11 @@ leading s q Master = master q
 
 route : (s : Session) (place : ℕ) (q : Route) → IsTest (is_formed_route s place q) (IsFormedRoute s place q)
 route s place q = other_words
-    (kinds q.kind _ also between 1 q.channels 2 also leading s q q.kind also le_tested _ 8
+    (kinds q.kind _ also between 1 q.channels 2 also leading s q q.kind also le_tested _ 8 also le_tested 8 _
     also all_tested (λ l. feeding s q l.to) q.sends.items also apart_tested eq_tested _)
-    (λ (((((kind, channels), output), few), sends), apart).
-    record { kind = kind; channels = channels; output = output; few = few; sends = sends; apart = apart })
-    (λ h. (((((h.kind, h.channels), h.output), h.few), h.sends), h.apart))
+    (λ ((((((kind, channels), output), few), room), sends), apart).
+    record { kind = kind; channels = channels; output = output; few = few; room = room; sends = sends; apart = apart })
+    (λ h. ((((((h.kind, h.channels), h.output), h.few), h.room), h.sends), h.apart))
 
 -- ---- tracks
 

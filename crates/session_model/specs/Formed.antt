@@ -76,8 +76,9 @@ pub record IsFormedRoute (s : Session) (place : ℕ) (q : Route) : Type 0 where
   -- one channel or two
   pub channels : IsBetween 1 q.channels 2
   pub output : LeadsOn s q q.kind
-  -- at most 8 sends
+  -- at most 8 sends, and room for all of them
   pub few : length q.sends.items ≤ 8
+  pub room : 8 ≤ q.sends.room
   pub sends : All (λ l. MayFeed s q l.to) q.sends.items
   -- to different routes
   pub apart : AreApart (map (λ l. l.to) q.sends.items)

@@ -51,7 +51,7 @@ leads_on s q Master = is_master q
 
 abbrev pub is_formed_route : Session → ℕ → Route → Bool
 is_formed_route s place q = same_kind q.kind (kind_at (length s.tracks.items) (length s.routes.items) place)
-    && is_between 1 q.channels 2 && leads_on s q q.kind && nat_le (length q.sends.items) 8
+    && is_between 1 q.channels 2 && leads_on s q q.kind && nat_le (length q.sends.items) 8 && nat_le 8 q.sends.room
     && list_all (λ l. may_feed s q l.to) q.sends.items && are_apart nat_eq (map (λ l. l.to) q.sends.items)
 
 -- ---- tracks

@@ -16,6 +16,7 @@ mod region;
 mod route;
 mod session;
 mod track;
+mod twin;
 
 pub use edit::Edit;
 pub use file_name::{FileName, FileNameRefusal, is_file_name};

@@ -8,7 +8,7 @@ ghost use Rattle.session_model.specs.Playlist.{IsPlaylist, has_id, has_region, w
 
 use crate::places::{any_has, index_of, place_of, put_at_end, put_last_at};
 use crate::region::Region;
-use ses_io::{FixedList, NoMemory};
+use ses_io::{FixedList, NoMemory, Twin};
 use std::alloc::Global;
 use std::marker::Model;
 
@@ -104,5 +104,13 @@ impl Playlist {
         ensures { result ≡ has_region self.now id }
     {
         any_has(self.regions(), id)
+    }
+}
+
+impl Twin for Playlist {
+    fn twin(&self, alloc: Global) -> Result<Self, NoMemory> {
+        Ok(Playlist {
+            list: self.list.twin(alloc)?,
+        })
     }
 }
