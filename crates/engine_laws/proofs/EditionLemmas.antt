@@ -185,7 +185,7 @@ quit_is session edits (suc k) each le = let here = get_there edits k le in
     ∙ ap (λ q. if is_quit here.0 then true else q) (quit_is session edits k each (omega arith))
     ∙ ap (λ b. if b then true else has_quit edits k) (sym (holds_at_is is_quit edits k ∙ ap (λ o. option_map_or is_quit o false) here.1))
 
-at_the_end : {X : Type 0} (xs : List X) (x : X) → slice_get (xs ++ x ∷ []) (length xs) ≡ Some x
+pub at_the_end : {X : Type 0} (xs : List X) (x : X) → slice_get (xs ++ x ∷ []) (length xs) ≡ Some x
 at_the_end [] x = refl
 at_the_end (y ∷ ys) x = at_the_end ys x
 

@@ -108,7 +108,7 @@ IsLawful session run = is_lawful_newest session run.edits run.entries ≡ true
 abbrev IsOpen : Run → Type 0
 IsOpen run = has_quit run.edits (length run.edits) ≡ false
 
-held_at_the_end : (f : Edit → Bool) (edits : List Edit) (e : Edit) → holds_at f (edits ++ e ∷ []) (length edits) ≡ f e
+pub held_at_the_end : (f : Edit → Bool) (edits : List Edit) (e : Edit) → holds_at f (edits ++ e ∷ []) (length edits) ≡ f e
 held_at_the_end f [] e = refl
 held_at_the_end f (x ∷ xs) e = held_at_the_end f xs e
 

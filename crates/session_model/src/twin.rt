@@ -1,6 +1,7 @@
 //! Sessions and their parts made a second time, each equal to the first and with the same room.
 ghost use Rattle.std.specs.Prelude.{◌≡◌, IfOk};
 
+use crate::edit::Edit;
 use crate::file_name::FileName;
 use crate::region::Region;
 use crate::route::{Route, SendLink};
@@ -17,6 +18,12 @@ impl Twin for SendLink {
 }
 
 impl Twin for Region {
+    fn twin(&self, _alloc: Global) -> Result<Self, NoMemory> {
+        Ok(*self)
+    }
+}
+
+impl Twin for Edit {
     fn twin(&self, _alloc: Global) -> Result<Self, NoMemory> {
         Ok(*self)
     }

@@ -1,0 +1,4 @@
+-- An edition stays the state after its edits.
+pub mod KeepLemmas
+pub mod PlayLaws
+pub mod AloneLemmas

@@ -1,0 +1,15 @@
+-- What is said of an edition.
+use Rattle.std.specs.Prelude.{◌≡◌, ℕ, length}
+use Rattle.session_model.specs.declared.session.Session.{Session}
+use Rattle.engine_model.specs.Edits.{generation, has_quit}
+use Rattle.engine_model.specs.Transport.{place_of, place}
+use Rattle.locate_loop.specs.Transport.{transport_of}
+use Rattle.edition_log.specs.Seen.{Seen, IsEditionOf}
+
+pub record PlaysItsPlaces (e : Seen) : Type 0 where
+  pub counted : e.transport.generation ≡ generation e.edits (length e.edits)
+  pub places : (n : ℕ) → place_of (transport_of e.transport) n ≡ place e.edits (generation e.edits (length e.edits)) n
+  pub quit : e.transport.quit ≡ has_quit e.edits (length e.edits)
+
+abbrev pub EditionsPlayTheirPlaces : Type 0
+EditionsPlayTheirPlaces = (s : Session) (e : Seen) → IsEditionOf s e → PlaysItsPlaces e

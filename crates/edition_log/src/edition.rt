@@ -1,0 +1,168 @@
+//! An edition: a session with its transport after the accepted edits, which it keeps as a list.
+ghost use Rattle.std.specs.Prelude.{◌≡◌, ◌+◌, ◌<◌, ◌≤◌, [], length, slice_index_or, IfOk, IsTrue, true, false};
+ghost use Rattle.session_model.specs.declared.session.Session.{Session as Opening};
+ghost use Rattle.session_model.specs.Valid.{IsValid};
+ghost use Rattle.locate_loop.specs.Transport.{IsTransport};
+ghost use Rattle.edition_log.specs.Seen.{Seen, IsSeen, IsOpen, IsEditionOf};
+ghost use Rattle.edition_log.specs.Steps.{is_built, Applies, Admits};
+
+use crate::moving::moved;
+use crate::reason::{Bound, Refusal};
+use locate_loop::Transport;
+use route_graph::{Order, order};
+use ses_io::{NoMemory, Twin};
+use session_model::{Edit, EditList, Session};
+use std::alloc::Global;
+use std::marker::Model;
+
+/// How many edits a run accepts.
+const MOST: u32 = 10_000;
+
+/// Places lie before this one, in frames.
+const END: u64 = 1 << 40;
+
+/// The state of a session after the accepted edits, the list of them, and whether it ended. Contracts see it as a record
+/// of `specs/Seen.antt`; `IsEditionOf` says that it is the state after just these edits.
+#[derive(Drop)]
+pub struct Edition {
+    session: Session,
+    transport: Transport,
+    order: Order,
+    touched: [u32; 32],
+    edits: EditList,
+    ended: bool,
+}
+
+impl Model for Edition {
+    ghost use Rattle.std.specs.Prelude.{◌≤◌, length};
+    ghost use Rattle.edition_log.specs.Seen.{Seen, IsSeen};
+
+    ghost Value = { Seen };
+
+    ghost view = { λ e. record { session = e.session; transport = e.transport; order = e.order; touched = e.touched; edits = e.edits.items; ended = e.ended } };
+
+    ghost invariant = { λ e. IsSeen record { session = e.session; transport = e.transport; order = e.order; touched = e.touched; edits = e.edits.items; ended = e.ended } × (10000 ≤ e.edits.room) };
+}
+
+impl Edition {
+    /// Edition 0 of a session, with room for 10,000 edits.
+    pub fn opening(alloc: Global, s: Session) -> Result<Edition, NoMemory>
+        requires { IsValid s }
+        ensures state { IfOk result (IsEditionOf s) }
+        ensures first { IfOk result (λ e. (e.session ≡ s) × (e.edits ≡ []) × (e.ended ≡ false)) }
+    {
+        let Ok(order) = order(alloc, &s) else {
+            return Err(NoMemory);
+        };
+        Ok(Edition {
+            session: s,
+            transport: Transport::at_rest(),
+            order,
+            touched: [0; 32],
+            edits: EditList::new(alloc, MOST)?,
+            ended: false,
+        })
+    }
+    /// Takes in one more edit, and answers the number of the edition that it makes. A refused edit changes nothing. It
+    /// takes no memory.
+    pub fn apply(&mut self, edit: &Edit) -> Result<u32, Refusal>
+        requires built { IsTrue (is_built edit.now) }
+        requires open { IsOpen self.old }
+        ensures step { Applies self.old edit.now result self.new }
+        ensures stays { (s : Opening) → IsEditionOf s self.old → IsEditionOf s self.new }
+    {
+        self.admits(edit)?;
+        self.transport = moved(&self.transport, edit);
+        self.edits.push(*edit);
+        Ok(self.number())
+    }
+
+    /// The refusal that `apply` would give of an edit, or that it would be accepted.
+    pub fn admits(&self, edit: &Edit) -> Result<(), Refusal>
+        requires built { IsTrue (is_built edit.now) }
+        requires open { IsOpen self.now }
+        ensures { Admits self.now edit.now result }
+    {
+        if self.edits.len() >= MOST as usize {
+            return Err(Refusal::Limit(Bound::Edits));
+        }
+        match *edit {
+            Edit::Locate { to } if to >= END => Err(Refusal::Far(to)),
+            _ => Ok(()),
+        }
+    }
+
+    /// No edit follows.
+    pub fn end(&mut self)
+        ensures ended { self.new ≡ record self.old { ended = true } }
+        ensures stays { (s : Opening) → IsEditionOf s self.old → IsEditionOf s self.new }
+    {
+        self.ended = true;
+    }
+
+    /// How many edits were accepted.
+    pub fn number(&self) -> u32
+        ensures number { result ≡ length self.now.edits }
+        ensures few { result ≤ 10000 }
+    {
+        self.edits.len() as u32
+    }
+
+    /// The session as the edits have made it.
+    pub fn session(&self) -> &Session
+        ensures session { result.now ≡ self.now.session }
+        ensures seen { IsSeen self.now }
+    {
+        &self.session
+    }
+
+    /// What the transport does, and where.
+    pub fn transport(&self) -> &Transport
+        ensures transport { result.now ≡ self.now.transport }
+        ensures bounds { IsTransport self.now.transport }
+    {
+        &self.transport
+    }
+
+    /// The routes of the session, with feeders first.
+    pub fn order(&self) -> &Order
+        ensures { result.now ≡ self.now.order }
+    {
+        &self.order
+    }
+
+    /// The number of the last edit that changed a track's playlist, 0 where none did.
+    pub fn touched(&self, track: u32) -> u32
+        requires { track < length self.now.session.tracks.items }
+        ensures { result ≡ slice_index_or self.now.touched track 0 }
+    {
+        self.touched[track as usize]
+    }
+
+    /// The accepted edits, the first one first.
+    pub fn edits(&self) -> &EditList
+        ensures { result.now.items ≡ self.now.edits }
+    {
+        &self.edits
+    }
+
+    /// Whether no edit follows.
+    pub fn ended(&self) -> bool
+        ensures { result ≡ self.now.ended }
+    {
+        self.ended
+    }
+}
+
+impl Twin for Edition {
+    fn twin(&self, alloc: Global) -> Result<Self, NoMemory> {
+        Ok(Edition {
+            session: self.session.twin(alloc)?,
+            transport: self.transport,
+            order: self.order.twin(alloc)?,
+            touched: self.touched,
+            edits: self.edits.twin(alloc)?,
+            ended: self.ended,
+        })
+    }
+}

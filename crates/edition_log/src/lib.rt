@@ -1,0 +1,14 @@
+//! The state of a session after so many accepted edits, with room for every limit reserved once.
+#![tactic(auto)]
+
+mod edition;
+mod laws;
+mod moving;
+mod reason;
+
+pub use edition::Edition;
+pub use laws::editions_play_their_places;
+pub use reason::{Bound, Refusal};
+
+#[cfg(test)]
+mod tests;

@@ -1,0 +1,33 @@
+//! What accepted edits do to the transport.
+ghost use Rattle.std.specs.Prelude.{◌≡◌, ◌+◌, ◌<◌, ◌≤◌, ◌^◌, IsTrue, None};
+ghost use Rattle.engine_model.specs.Editions.{why_not};
+ghost use Rattle.engine_model.specs.Transport.{moved};
+ghost use Rattle.locate_loop.specs.Transport.{transport_of, IsTransport};
+ghost use Rattle.edition_log.specs.Steps.{is_built, IsNear};
+
+use locate_loop::Transport;
+use session_model::Edit;
+
+/// The transport after an edit that was accepted.
+pub(crate) fn moved(t: &Transport, edit: &Edit) -> Transport
+    requires built { IsTrue (is_built edit.now) }
+    requires bounds { IsTransport t.now }
+    requires near { IsNear edit.now }
+    requires few { t.now.generation < 10000 }
+    ensures moved { transport_of result ≡ moved (transport_of t.now) edit.now }
+    ensures bounds { IsTransport result }
+    ensures counted { result.generation ≤ t.now.generation + 1 }
+{
+    match *edit {
+        Edit::Roll => Transport {
+            rolling: true,
+            ..*t
+        },
+        Edit::Locate { to } => Transport {
+            generation: t.generation + 1,
+            target: to,
+            ..*t
+        },
+        _ => *t,
+    }
+}
