@@ -1,0 +1,67 @@
+-- What no call changes, from what each call leaves.
+use Rattle.std.proofs.Common.{◌≡◌, ℕ, ◌/◌, ◌≤◌, Bool, true, [], ◌∷◌, ◌++◌, length, sym, ap, ◌∙◌, subst, append-nil, false, true≢false}
+use mathlib.Core.List.{IsPrefix}
+use Rattle.disk_ring.specs.Sender.{Sender, GoesOnIn}
+use Rattle.disk_ring.specs.Receiver.{Receiver, GoesOnOut, receiver_of}
+use Rattle.disk_ring.specs.Steps.{close_bit, SawTail}
+use Rattle.disk_ring.specs.declared.board.Known.{Known}
+use Rattle.atomic_table.specs.declared.shared.Seat.{Seat}
+use Rattle.atomic_table.specs.Table.{step}
+use mathlib.Core.Option.{none}
+use Rattle.disk_ring.proofs.Beginnings.{whole}
+
+module _ {T : Type 0} where
+  pub after_put : (a b : Sender T) (item : T) → b ≡ record a { sent = a.sent ++ item ∷ []; got = b.got } → a.got ≤ b.got → GoesOnIn a b
+  after_put a b item e up = record {
+    ring = ap (λ s. s.ring) e;
+    depth = ap (λ s. s.depth) e;
+    room = ap (λ s. s.room) e;
+    closed = ap (λ s. s.closed) e;
+    sent = (item ∷ [], ap (λ s. s.sent) (sym e));
+    heads = ([], append-nil a.heads ∙ ap (λ s. s.heads) (sym e));
+    got = up;
+  }
+
+  pub after_full : (a b : Sender T) (head : ℕ) → b ≡ record a { heads = a.heads ++ head ∷ []; got = head } → a.got ≤ head → GoesOnIn a b
+  after_full a b head e up = record {
+    ring = ap (λ s. s.ring) e;
+    depth = ap (λ s. s.depth) e;
+    room = ap (λ s. s.room) e;
+    closed = ap (λ s. s.closed) e;
+    sent = ([], append-nil a.sent ∙ ap (λ s. s.sent) (sym e));
+    heads = (head ∷ [], ap (λ s. s.heads) (sym e));
+    got = subst (λ n. a.got ≤ n) (ap (λ s. s.got) (sym e)) up;
+  }
+
+  pub after_take : (a b : Receiver T) (item : T) → b ≡ record a { received = a.received ++ item ∷ [] } → a.ended ≡ false → GoesOnOut a b
+  after_take a b item e going = record {
+    ring = ap (λ s. s.ring) e;
+    depth = ap (λ s. s.depth) e;
+    room = ap (λ s. s.room) e;
+    received = (item ∷ [], ap (λ s. s.received) (sym e));
+    tails = ([], append-nil a.tails ∙ ap (λ s. s.tails) (sym e));
+    ended = λ ended. absurd (true≢false (sym ended ∙ going));
+    heard = ([], append-nil a.heard ∙ ap (λ s. s.heard) (sym e));
+    over = λ over. (ap (λ s. s.over) e ∙ over, ap (λ s. s.heard) e);
+  }
+
+  pub after_nothing : (a b : Receiver T) (tail : ℕ) (shut : Bool) → b ≡ record a { tails = a.tails ++ tail ∷ []; heard = a.received; over = shut; ended = shut } → IsPrefix a.heard a.received
+      → (a.ended ≡ true → shut ≡ true) → (a.over ≡ true → (shut ≡ true) × (length a.received ≡ length a.heard)) → GoesOnOut a b
+  after_nothing a b tail shut e begins ended over = record {
+    ring = ap (λ s. s.ring) e;
+    depth = ap (λ s. s.depth) e;
+    room = ap (λ s. s.room) e;
+    received = ([], append-nil a.received ∙ ap (λ s. s.received) (sym e));
+    tails = (tail ∷ [], ap (λ s. s.tails) (sym e));
+    ended = λ was. (ap (λ s. s.ended) e ∙ ended was, ap (λ s. s.received) e);
+    heard = subst (IsPrefix a.heard) (ap (λ s. s.heard) (sym e)) begins;
+    over = λ was. (ap (λ s. s.over) e ∙ (over was).0, ap (λ s. s.heard) e ∙ sym (whole a.heard a.received begins (sym (over was).1)));
+  }
+
+-- the end of the seat p looked, and found that it had received all
+pub after_look : {S T : Type 0} (value : S → T) (room_of : T → ℕ) (a : Receiver T) (p p' : Seat S (Known T)) (depth n word : ℕ) → receiver_of p depth ≡ a → p'.table_id ≡ p.table_id
+    → SawTail value room_of (step n 1 0 0 none) p.me word p'.me → word / 2 ≡ length p.me.0.received → GoesOnOut a (receiver_of p' depth)
+after_look value room_of a p p' depth n word is same saw none_left = let left = saw.nothing none_left in let q = left.1 in
+    subst (λ z. GoesOnOut z (receiver_of p' depth)) is (after_nothing (receiver_of p depth) (receiver_of p' depth) (word / 2) (close_bit word)
+    (λ i. record { ring = same i; depth = depth; room = (q i).0.room; received = (q i).0.received; tails = (q i).0.tails; ended = (q i).0.ended; heard = (q i).0.heard; over = (q i).0.over })
+    left.0 (λ was. (saw.ended was).0) (λ was. let told = saw.over was in (told.0, sym none_left ∙ told.1)))

@@ -1,0 +1,16 @@
+use Rattle.std.proofs.Common.{arith, ap, ◌∙◌, sym, ◌∷◌, ◌%◌, length}
+use Rattle.atomic_table.specs.Table.{rest}
+use Rattle.disk_ring.proofs.Sends.{appends}
+use Rattle.disk_ring.proofs.steps.send.Goals as goal
+
+pub exchange-husk-requires : goal.exchange-husk-requires
+exchange-husk-requires g c = let hand = c.requires.hand in (c.requires.place.table, (hand.0, hand.1 ∙ ap (λ r. (c.args.slot, hand.0) ∷ r) (sym (ap rest hand.1))))
+
+pub store-requires : goal.store-requires
+store-requires g c = let p = c.requires.place in let words = p.words in let now = c.exchange-husk.ensures.3 in let know = ap (λ m. m.0) now in let count = c.requires.count.0 in let long = ap (λ v. length v.sent) know in (
+  c.exchange-husk.ensures.0 ∙ p.table,
+  omega arith,
+  appends _ g.T.Roomy.room_of _ _ _ _ c.args.slot _ c.args.full (ap (λ v. v.sends) know ∙ p.mine) (ap (λ v. v.filling) know ∙ p.fills) (ap (λ v. v.closed) know ∙ p.still_open)
+      (c.requires.room ∙ sym (ap (λ v. v.room) know)) (p.place ∙ ap (λ v. length v.sent % c.args.board.now.shared.table_id.slots) (sym know))
+      (ap (λ m. m.1) now ∙ ap (λ r. (c.args.slot, c.args.full) ∷ r) (ap rest c.requires.hand.1)) (omega arith),
+)

@@ -1,0 +1,48 @@
+-- What is so of the two ends of one ring.
+use Rattle.std.specs.Prelude.{◌≡◌, ℕ, ◌+◌, ◌^◌, ◌≤◌, Bool, true, false, List, [], length}
+use mathlib.Core.List.{IsPrefix}
+use Rattle.disk_ring.specs.Sender.{Sender}
+use Rattle.disk_ring.specs.Receiver.{Receiver}
+
+-- a ring of this depth as it passed items on
+pub record Passed {T : Type 0} (depth : ℕ) (sent : List T) (closed : Bool) (received : List T) (ended : Bool) : Type 0 where
+  -- what was received are the first of the items sent
+  pub begins : IsPrefix received sent
+  -- where the consumer was answered Closed, the ring was closed, and all was received
+  pub all : ended ≡ true → (closed ≡ true) × (received ≡ sent)
+  -- no more items wait than there are boxes
+  pub within : length sent ≤ length received + depth
+  pub small : length sent ≤ 2 ^ 62
+
+-- a ring whose two ends were joined again
+pub record Joined (T : Type 0) : Type 0 where
+  pub depth : ℕ
+  pub room : ℕ
+  pub sent : List T
+  pub closed : Bool
+  pub heads : List ℕ
+  pub received : List T
+  pub tails : List ℕ
+  pub ended : Bool
+
+module _ {T : Type 0} where
+  abbrev pub joined_of : Sender T → Receiver T → Joined T
+  joined_of a b = record { depth = a.depth; room = a.room; sent = a.sent; closed = a.closed; heads = a.heads; received = b.received; tails = b.tails; ended = b.ended }
+
+  abbrev pub Whole : Joined T → Type 0
+  Whole r = Passed r.depth r.sent r.closed r.received r.ended
+
+  -- the two ends of a ring through which nothing went yet
+  pub record IsNewRing (depth : ℕ) (a : Sender T) (b : Receiver T) : Type 0 where
+    pub sender : a ≡ record { ring = a.ring; depth = depth; room = a.room; sent = []; closed = false; heads = []; got = 0 }
+    pub receiver : b ≡ record { ring = a.ring; depth = depth; room = a.room; received = []; tails = []; ended = false; heard = []; over = false }
+
+  -- what is so of two ends of one ring when they meet
+  pub record Met (a : Sender T) (b : Receiver T) : Type 0 where
+    pub depth : b.depth ≡ a.depth
+    pub passed : Passed a.depth a.sent a.closed b.received b.ended
+    -- what the consumer was told before was so
+    pub heard : IsPrefix b.heard a.sent
+    pub over : b.over ≡ true → (a.closed ≡ true) × (b.heard ≡ a.sent)
+    -- no fewer were received than the producer knew of
+    pub got : a.got ≤ length b.received

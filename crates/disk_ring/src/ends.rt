@@ -1,0 +1,75 @@
+//! How a ring is made.
+ghost use Rattle.std.specs.Prelude.{◌≡◌, ℕ, ◌<◌, [], true, false, length, All, IfOk};
+ghost use Rattle.disk_ring.specs.Rings.{IsNewRing};
+ghost use Rattle.disk_ring.specs.Rule.{opening_view};
+
+use crate::board::{Board, Place};
+use crate::plays::Part;
+use crate::ring_in::RingIn;
+use crate::ring_out::RingOut;
+use crate::roomy::Roomy;
+use atomic_table::Table;
+use ses_io::NoMemory;
+use std::alloc::Global;
+use std::sync::Arc;
+
+// The table of a new ring, and its first seat.
+fn new_board<T: Roomy + Drop>(
+    alloc: Global,
+    husks: Vec<Box<T>>,
+    room: u64,
+) -> Result<(Board<T>, Place<T>), NoMemory>
+    requires some { 0 < length husks.items }
+    requires room { All (λ b. T.room_of b.value ≡ room) husks.items }
+    ensures { IfOk result (λ r. (r.1.table_id ≡ r.0.shared.table_id) × (r.1.me ≡ (opening_view room, []))
+        × (r.0.shared.table_id.words ≡ 2) × (r.0.shared.table_id.slots ≡ length husks.items)) }
+{
+    match Table::new(alloc, &[0, 0], husks, &room) {
+        Ok(made) => Ok(made),
+        Err(_) => Err(NoMemory),
+    }
+}
+
+// The consumer's seat, cut off the first one, which is the producer's from then on.
+fn part<T: Roomy>(board: &Board<T>, first: &mut Place<T>) -> Place<T>
+    requires table { first.old.table_id ≡ board.now.shared.table_id }
+    requires words { board.now.shared.table_id.words ≡ 2 }
+    requires both { (first.old.me.0.sends ≡ true) × (first.old.me.0.takes ≡ true) }
+    ensures same { (first.new.table_id ≡ first.old.table_id) × (result.table_id ≡ first.old.table_id) }
+    ensures producer { first.new.me ≡ (record first.old.me.0 { takes = false }, first.old.me.1) }
+    ensures consumer { result.me ≡ (record first.old.me.0 { sends = false }, []) }
+{
+    board.shared.split_seat::<Part>(first)
+}
+
+/// The two ends of a new ring of `depth` boxes, which begins with these husks, all of one room.
+pub fn ring<T: Roomy + Drop>(
+    alloc: Global,
+    depth: u32,
+    husks: Vec<Box<T>>,
+) -> Result<(RingIn<T>, RingOut<T>), NoMemory>
+    requires some { 0 < depth }
+    requires husks { length husks.items ≡ depth }
+    requires room { (room : ℕ) × All (λ b. T.room_of b.value ≡ room) husks.items }
+    ensures ends { IfOk result (λ r. IsNewRing depth r.0 r.1) }
+    ensures room { IfOk result (λ r. All (λ b. T.room_of b.value ≡ r.0.room) husks.items) }
+{
+    let room = u64::from(husks[0].room());
+    let (board, mut first) = new_board(alloc, husks, room)?;
+    let second = part(&board, &mut first);
+    let ours = Arc::new(alloc, board)?;
+    let theirs = Arc::try_clone(&ours)?;
+    let sender = RingIn {
+        board: ours,
+        seat: first,
+        count: 0,
+        depth: u64::from(depth),
+    };
+    let receiver = RingOut {
+        board: theirs,
+        seat: second,
+        count: 0,
+        depth: u64::from(depth),
+    };
+    Ok((sender, receiver))
+}

@@ -1,0 +1,22 @@
+//! A ring of one producer and one consumer that swaps boxes, so no call of theirs takes memory or waits.
+#![tactic(auto)]
+
+mod board;
+mod ends;
+mod joined;
+mod lists;
+mod nothing;
+mod plays;
+mod ring_in;
+mod ring_out;
+mod roomy;
+mod steps;
+mod tells;
+
+pub use ends::ring;
+pub use joined::{Ring, meet, rejoin};
+pub use lists::{RingInList, RingOutList};
+pub use nothing::Nothing;
+pub use ring_in::{Full, RingIn};
+pub use ring_out::RingOut;
+pub use roomy::Roomy;

@@ -1,0 +1,69 @@
+//! The end of a ring that takes. No call of it takes memory, locks or waits.
+ghost use Rattle.std.specs.Prelude.{◌≡◌, ◌/◌, true, false, MatchResult};
+ghost use Rattle.disk_ring.specs.Receiver.{GoesOnOut, Takes};
+ghost use Rattle.disk_ring.specs.Answers.{FoundNothing};
+ghost use Rattle.disk_ring.specs.Steps.{close_bit};
+
+use crate::board::{Board, Place};
+use crate::nothing::Nothing;
+use crate::roomy::Roomy;
+use crate::steps::{look_at_tail, receive};
+use std::marker::Model;
+use std::sync::Arc;
+
+/// The end that takes, for one thread at a time.
+#[derive(Drop)]
+pub struct RingOut<T: Roomy> {
+    pub(crate) board: Arc<Board<T>>,
+    pub(crate) seat: Place<T>,
+    pub(crate) count: u64,
+    pub(crate) depth: u64,
+}
+
+impl<T: Roomy> Model for RingOut<T> {
+    ghost use Rattle.std.specs.Arc.{arc_value};
+    ghost use Rattle.disk_ring.specs.Places.{ReceiverOk};
+    ghost use Rattle.disk_ring.specs.Receiver.{Receiver, receiver_of};
+
+    ghost Value = { Receiver T };
+
+    ghost view = { λ r. receiver_of r.seat r.depth };
+
+    ghost invariant = { λ r. ReceiverOk (arc_value r.board).shared.table_id r.seat r.count r.depth };
+}
+
+// The answer of an end that received all, by the close bit of the tail word.
+fn nothing<T>(word: u64, husk: Box<T>) -> Nothing<T>
+    ensures closed { close_bit word ≡ true → result ≡ Nothing.Closed husk (word / 2) }
+    ensures empty { close_bit word ≡ false → result ≡ Nothing.Empty husk (word / 2) }
+{
+    let tail = word / 2;
+    if word % 2 == 1 {
+        Nothing::Closed { husk, tail }
+    } else {
+        Nothing::Empty { husk, tail }
+    }
+}
+
+impl<T: Roomy> RingOut<T> {
+    /// Takes the next item, and keeps the husk. Empty exactly where the tail loaded in this call is
+    /// the number received and the close bit wasn't set in it, Closed exactly where it was.
+    pub fn take(&mut self, husk: Box<T>) -> Result<Box<T>, Nothing<T>>
+        requires room { T.room_of husk.value ≡ self.old.room }
+        ensures ring { GoesOnOut self.old self.new }
+        ensures answer { MatchResult result
+            (λ item. Takes T.room_of self.old item.value self.new)
+            (λ e. FoundNothing self.old husk e self.new) }
+    {
+        let board: &Board<T> = &self.board;
+        let word = look_at_tail(board, &mut self.seat);
+        let tail = word / 2;
+        if tail == self.count {
+            return Err(nothing(word, husk));
+        }
+        let slot = (self.count % self.depth) as usize;
+        let item = receive(board, &mut self.seat, slot, self.count, husk);
+        self.count += 1;
+        Ok(item)
+    }
+}
