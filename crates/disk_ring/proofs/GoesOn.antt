@@ -1,5 +1,6 @@
 -- What no call changes, from what each call leaves.
-use Rattle.std.proofs.Common.{◌≡◌, ℕ, ◌/◌, ◌≤◌, Bool, true, [], ◌∷◌, ◌++◌, length, sym, ap, ◌∙◌, subst, append-nil, false, true≢false}
+use Rattle.std.proofs.Common.{◌≡◌, ℕ, ◌/◌, ◌≤◌, Bool, true, [], ◌∷◌, ◌++◌, length, sym, refl, ap, ◌∙◌, subst, append-nil, false, true≢false, le_refl, le_trans}
+use base.Growing.{prefix_refl, prefix_trans}
 use mathlib.Core.List.{IsPrefix}
 use Rattle.disk_ring.specs.Sender.{Sender, GoesOnIn}
 use Rattle.disk_ring.specs.Receiver.{Receiver, GoesOnOut, receiver_of}
@@ -65,3 +66,34 @@ after_look value room_of a p p' depth n word is same saw none_left = let left = 
     subst (λ z. GoesOnOut z (receiver_of p' depth)) is (after_nothing (receiver_of p depth) (receiver_of p' depth) (word / 2) (close_bit word)
     (λ i. record { ring = same i; depth = depth; room = (q i).0.room; received = (q i).0.received; tails = (q i).0.tails; ended = (q i).0.ended; heard = (q i).0.heard; over = (q i).0.over })
     left.0 (λ was. (saw.ended was).0) (λ was. let told = saw.over was in (told.0, sym none_left ∙ told.1)))
+
+module _ {T : Type 0} where
+  -- calls one after the other
+  pub goes_on_in_refl : (a : Sender T) → GoesOnIn a a
+  goes_on_in_refl a = record { ring = refl; depth = refl; room = refl; closed = refl; sent = prefix_refl a.sent; heads = prefix_refl a.heads; got = le_refl a.got }
+
+  pub goes_on_in_trans : (a b c : Sender T) → GoesOnIn a b → GoesOnIn b c → GoesOnIn a c
+  goes_on_in_trans a b c h k = record {
+    ring = k.ring ∙ h.ring;
+    depth = k.depth ∙ h.depth;
+    room = k.room ∙ h.room;
+    closed = k.closed ∙ h.closed;
+    sent = prefix_trans a.sent b.sent c.sent h.sent k.sent;
+    heads = prefix_trans a.heads b.heads c.heads h.heads k.heads;
+    got = le_trans h.got k.got;
+  }
+
+  pub goes_on_out_refl : (a : Receiver T) → GoesOnOut a a
+  goes_on_out_refl a = record { ring = refl; depth = refl; room = refl; received = prefix_refl a.received; tails = prefix_refl a.tails; ended = λ was. (was, refl); heard = prefix_refl a.heard; over = λ was. (was, refl) }
+
+  pub goes_on_out_trans : (a b c : Receiver T) → GoesOnOut a b → GoesOnOut b c → GoesOnOut a c
+  goes_on_out_trans a b c h k = record {
+    ring = k.ring ∙ h.ring;
+    depth = k.depth ∙ h.depth;
+    room = k.room ∙ h.room;
+    received = prefix_trans a.received b.received c.received h.received k.received;
+    tails = prefix_trans a.tails b.tails c.tails h.tails k.tails;
+    ended = λ was. let e = h.ended was in let f = k.ended e.0 in (f.0, f.1 ∙ e.1);
+    heard = prefix_trans a.heard b.heard c.heard h.heard k.heard;
+    over = λ was. let e = h.over was in let f = k.over e.0 in (f.0, f.1 ∙ e.1);
+  }

@@ -1,8 +1,13 @@
 -- What is so of the two ends of one ring.
-use Rattle.std.specs.Prelude.{◌≡◌, ℕ, ◌+◌, ◌^◌, ◌≤◌, Bool, true, false, List, [], length}
+use Rattle.std.specs.Prelude.{◌≡◌, ℕ, ◌+◌, ◌^◌, ◌≤◌, Bool, true, false, List, [], length, All, Box}
+use Rattle.std.specs.Global.{Global}
 use mathlib.Core.List.{IsPrefix}
 use Rattle.disk_ring.specs.Sender.{Sender}
 use Rattle.disk_ring.specs.Receiver.{Receiver}
+
+-- the boxes are all of this room
+abbrev pub AllOfRoom : {T : Type 0} → (T → ℕ) → ℕ → List (Box T Global) → Type 0
+AllOfRoom room_of room husks = All (λ b. room_of b.value ≡ room) husks
 
 -- a ring of this depth as it passed items on
 pub record Passed {T : Type 0} (depth : ℕ) (sent : List T) (closed : Bool) (received : List T) (ended : Bool) : Type 0 where

@@ -1,6 +1,6 @@
 //! How a ring is made.
 ghost use Rattle.std.specs.Prelude.{◌≡◌, ℕ, ◌<◌, [], true, false, length, All, IfOk};
-ghost use Rattle.disk_ring.specs.Rings.{IsNewRing};
+ghost use Rattle.disk_ring.specs.Rings.{IsNewRing, AllOfRoom};
 ghost use Rattle.disk_ring.specs.Rule.{opening_view};
 
 use crate::board::{Board, Place};
@@ -20,7 +20,7 @@ fn new_board<T: Roomy + Drop>(
     room: u64,
 ) -> Result<(Board<T>, Place<T>), NoMemory>
     requires some { 0 < length husks.items }
-    requires room { All (λ b. T.room_of b.value ≡ room) husks.items }
+    requires room { AllOfRoom T.room_of room husks.items }
     ensures { IfOk result (λ r. (r.1.table_id ≡ r.0.shared.table_id) × (r.1.me ≡ (opening_view room, []))
         × (r.0.shared.table_id.words ≡ 2) × (r.0.shared.table_id.slots ≡ length husks.items)) }
 {
@@ -50,9 +50,10 @@ pub fn ring<T: Roomy + Drop>(
 ) -> Result<(RingIn<T>, RingOut<T>), NoMemory>
     requires some { 0 < depth }
     requires husks { length husks.items ≡ depth }
-    requires room { (room : ℕ) × All (λ b. T.room_of b.value ≡ room) husks.items }
+    requires room { (room : ℕ) × AllOfRoom T.room_of room husks.items }
     ensures ends { IfOk result (λ r. IsNewRing depth r.0 r.1) }
-    ensures room { IfOk result (λ r. All (λ b. T.room_of b.value ≡ r.0.room) husks.items) }
+    ensures room { IfOk result
+        (λ r. (room : ℕ) → AllOfRoom T.room_of room husks.items → r.0.room ≡ room) }
 {
     let room = u64::from(husks[0].room());
     let (board, mut first) = new_board(alloc, husks, room)?;

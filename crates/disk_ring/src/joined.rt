@@ -1,5 +1,7 @@
 //! The two ends of a ring in one place: they tell each other what they know, or become one.
 ghost use Rattle.std.specs.Prelude.{◌≡◌, length};
+ghost use Rattle.disk_ring.specs.Sender.{GoesOnIn};
+ghost use Rattle.disk_ring.specs.Receiver.{GoesOnOut};
 ghost use Rattle.disk_ring.specs.Rings.{Met, Whole, joined_of};
 
 use crate::ring_in::RingIn;
@@ -31,6 +33,8 @@ pub fn meet<T: Roomy>(a: &mut RingIn<T>, b: &mut RingOut<T>)
     ensures sender { a.new ≡ record a.old { got = length b.old.received } }
     ensures receiver { b.new ≡ record b.old { heard = a.old.sent; over = a.old.closed } }
     ensures met { Met a.old b.old }
+    ensures sender_goes_on { GoesOnIn a.old a.new }
+    ensures receiver_goes_on { GoesOnOut b.old b.new }
 {
     tell_rumour(&a.board, &mut a.seat, &mut b.seat);
     tell_consumer(&a.board, &mut b.seat, &mut a.seat);

@@ -20,3 +20,6 @@ pub use nothing::Nothing;
 pub use ring_in::{Full, RingIn};
 pub use ring_out::RingOut;
 pub use roomy::Roomy;
+
+#[cfg(test)]
+mod tests;
