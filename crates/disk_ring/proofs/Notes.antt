@@ -7,12 +7,12 @@ use base.Growing.{prefix_refl}
 use Rattle.atomic_table.specs.Table.{State, Splits, Joins, opening}
 use Rattle.atomic_table.proofs.Lists.{at_set, at_snoc}
 use Rattle.disk_ring.specs.declared.board.Known.{Known}
-use Rattle.disk_ring.specs.Rule.{Whole, Fits, Ruled, Law, opening_view}
+use Rattle.disk_ring.specs.Rule.{Flow, Fits, Ruled, Law, opening_view}
 use Rattle.disk_ring.specs.Steps.{note, hears, hears_list}
 use Rattle.disk_ring.proofs.Beginnings.{last_at, item_there}
 
 -- a seat of no end fits where it tells what is so
-fits_note : {T : Type 0} (room : ℕ) (w : Whole T) (j : ℕ) (heard : List T) (over : Bool) (got : ℕ) → IsPrefix heard w.log
+fits_note : {T : Type 0} (room : ℕ) (w : Flow T) (j : ℕ) (heard : List T) (over : Bool) (got : ℕ) → IsPrefix heard w.log
     → (over ≡ true → (w.shut ≡ true) × (heard ≡ w.log)) → got ≤ w.got → Fits room w j (note heard over got)
 fits_note room w j heard over got begins all up = record { heard = begins; over = all; got = up; sends = λ e. absurd (true≢false (sym e)); takes = λ e. absurd (true≢false (sym e)) }
 
@@ -21,12 +21,12 @@ module _ {S T : Type 0} (value : S → T) (room_of : T → ℕ) where
   K = Known T
 
   -- the same ring with other seats, the consumer's at c
-  reseated : (room n : ℕ) (s : State S K) (r : Ruled value room_of room n s) (c : ℕ) (views : List K) → ((j : ℕ) (v : K) → get_elem? views j ≡ some v → Fits room (record r.whole { consumer = c }) j v)
+  reseated : (room n : ℕ) (s : State S K) (r : Ruled value room_of room n s) (c : ℕ) (views : List K) → ((j : ℕ) (v : K) → get_elem? views j ≡ some v → Fits room (record r.flow { consumer = c }) j v)
       → Law value room_of room record { words = s.words; homes = s.homes; views = views }
   reseated room n s r c views each = (
     n,
     record {
-      whole = record r.whole { consumer = c };
+      flow = record r.flow { consumer = c };
       some_slot = r.some_slot;
       deep = r.deep;
       wide = r.wide;
@@ -43,8 +43,8 @@ module _ {S T : Type 0} (value : S → T) (room_of : T → ℕ) where
 
   pub parts : (room id : ℕ) (v : K) → v.sends ≡ true → v.takes ≡ true → Splits (Law value room_of room) id v (record v { takes = false }) (record v { sends = false })
   parts room id v sends takes s law at =
-      let r = law.1 in let w = r.whole in let f = r.each_seat id v at in let p = f.sends sends in let c = f.takes takes in
-      let left : K = record v { takes = false } in let right : K = record v { sends = false } in let vs = set s.views id left in let w' : Whole T = record w { consumer = length vs } in
+      let r = law.1 in let w = r.flow in let f = r.each_seat id v at in let p = f.sends sends in let c = f.takes takes in
+      let left : K = record v { takes = false } in let right : K = record v { sends = false } in let vs = set s.views id left in let w' : Flow T = record w { consumer = length vs } in
       let its_left : Fits room w' id left = record {
         heard = f.heard;
         over = f.over;
@@ -73,32 +73,32 @@ module _ {S T : Type 0} (value : S → T) (room_of : T → ℕ) where
       (last_at vs right u j there))
 
   -- a seat tells another what the rule says of all
-  noted : (room n id : ℕ) (v told : K) (s : State S K) (r : Ruled value room_of room n s) → get_elem? s.views id ≡ some v → ((j : ℕ) → Fits room r.whole j told)
+  noted : (room n id : ℕ) (v told : K) (s : State S K) (r : Ruled value room_of room n s) → get_elem? s.views id ≡ some v → ((j : ℕ) → Fits room r.flow j told)
       → Law value room_of room record { words = s.words; homes = s.homes; views = set s.views id v ++ told ∷ [] }
-  noted room n id v told s r at fits = reseated room n s r r.whole.consumer (set s.views id v ++ told ∷ []) (λ j u there. ⊎_elim
-      (λ before. ⊎_elim (λ (t : (j ≡ id) × (v ≡ u)). subst (λ (z : ℕ × K). Fits room r.whole z.0 z.1) (λ i. (sym t.0 i, t.1 i)) (r.each_seat id v at))
+  noted room n id v told s r at fits = reseated room n s r r.flow.consumer (set s.views id v ++ told ∷ []) (λ j u there. ⊎_elim
+      (λ before. ⊎_elim (λ (t : (j ≡ id) × (v ≡ u)). subst (λ (z : ℕ × K). Fits room r.flow z.0 z.1) (λ i. (sym t.0 i, t.1 i)) (r.each_seat id v at))
       (λ (t : (j ≢ id) × (get_elem? s.views j ≡ some u)). r.each_seat j u t.1) (at_set s.views id j v u before))
-      (λ (t : told ≡ u). subst (Fits room r.whole j) t (fits j))
+      (λ (t : told ≡ u). subst (Fits room r.flow j) t (fits j))
       (at_snoc (set s.views id v) told u j there))
 
   pub notes_in : (room id : ℕ) (v : K) → v.sends ≡ true → Splits (Law value room_of room) id v v (note v.sent v.closed v.got)
   notes_in room id v sends s law at = let r = law.1 in let f = r.each_seat id v at in let p = f.sends sends in noted room law.0 id v (note v.sent v.closed v.got) s r at
-      (λ j. fits_note room r.whole j v.sent v.closed v.got (subst (IsPrefix v.sent) p.sent_is (prefix_refl v.sent)) (λ e. (sym p.closed_is ∙ e, p.sent_is)) f.got)
+      (λ j. fits_note room r.flow j v.sent v.closed v.got (subst (IsPrefix v.sent) p.sent_is (prefix_refl v.sent)) (λ e. (sym p.closed_is ∙ e, p.sent_is)) f.got)
 
   pub notes_out : (room id : ℕ) (v : K) → v.takes ≡ true → v.held ≡ [] → Splits (Law value room_of room) id v v (note v.received v.ended (length v.received))
   notes_out room id v takes empty s law at = let r = law.1 in let f = r.each_seat id v at in let c = f.takes takes in
-      let begun : IsPrefix v.received r.whole.log = subst (λ (z : List T). IsPrefix z r.whole.log) (ap (λ z. v.received ++ z) empty ∙ append-nil v.received) c.begins in
+      let begun : IsPrefix v.received r.flow.log = subst (λ (z : List T). IsPrefix z r.flow.log) (ap (λ z. v.received ++ z) empty ∙ append-nil v.received) c.begins in
       noted room law.0 id v (note v.received v.ended (length v.received)) s r at
-      (λ j. fits_note room r.whole j v.received v.ended (length v.received) begun c.all (subst (λ (z : ℕ). length v.received ≤ z) c.counted (le_refl (length v.received))))
+      (λ j. fits_note room r.flow j v.received v.ended (length v.received) begun c.all (subst (λ (z : ℕ). length v.received ≤ z) c.counted (le_refl (length v.received))))
 
   pub notes_on : (room id : ℕ) (v : K) → Splits (Law value room_of room) id v v (note v.heard v.over v.got)
   notes_on room id v s law at = let r = law.1 in let f = r.each_seat id v at in noted room law.0 id v (note v.heard v.over v.got) s r at
-      (λ j. fits_note room r.whole j v.heard v.over v.got f.heard f.over f.got)
+      (λ j. fits_note room r.flow j v.heard v.over v.got f.heard f.over f.got)
 
   -- a seat takes over what another was told, and the other is spent
-  taken_over : (room id : ℕ) (v : K) (other : ℕ) (u both : K) → ((w : Whole T) → Fits room w id v → Fits room w other u → Fits room w id both)
+  taken_over : (room id : ℕ) (v : K) (other : ℕ) (u both : K) → ((w : Flow T) → Fits room w id v → Fits room w other u → Fits room w id both)
       → Joins (Law value room_of room) id v other u both (note [] false 0)
-  taken_over room id v other u both fit s law at apart there = let r = law.1 in let w = r.whole in let vs = set s.views id both in
+  taken_over room id v other u both fit s law at apart there = let r = law.1 in let w = r.flow in let vs = set s.views id both in
       let told : Fits room w other u = ⊎_elim (λ (t : (other ≡ id) × (both ≡ u)). absurd (apart t.0)) (λ (t : (other ≢ id) × (get_elem? s.views other ≡ some u)). r.each_seat other u t.1) (at_set s.views id other both u there) in
       let mine : Fits room w id both = fit w (r.each_seat id v at) told in
       reseated room law.0 s r w.consumer (set vs other (note [] false 0)) (λ j x here. ⊎_elim
@@ -115,7 +115,7 @@ module _ {S T : Type 0} (value : S → T) (room_of : T → ℕ) where
 
   pub starts : (room : ℕ) (words : List ℕ) (husks : List S) → words ≡ 0 ∷ 0 ∷ [] → 0 < length husks → All (λ b. room_of (value b) ≡ room) husks → Law value room_of room (opening words husks (opening_view room))
   starts room words husks words_are some_husk roomy =
-      let n : ℕ = length husks in let v : K = opening_view room in let w : Whole T = record { log = []; got = 0; shut = false; producer = 0; consumer = 0; filling = false; held = [] } in
+      let n : ℕ = length husks in let v : K = opening_view room in let w : Flow T = record { log = []; got = 0; shut = false; producer = 0; consumer = 0; filling = false; held = [] } in
       let at_first : Fits room w 0 v = record {
         heard = prefix_refl [];
         over = λ e. absurd (true≢false (sym e));
@@ -125,7 +125,7 @@ module _ {S T : Type 0} (value : S → T) (room_of : T → ℕ) where
       } in (
         n,
         record {
-          whole = w;
+          flow = w;
           some_slot = some_husk;
           deep = length-map husks some;
           wide = ap length words_are;

@@ -10,7 +10,7 @@ use Rattle.std.proofs.lemmas.List.{nil_from_length}
 use Rattle.atomic_table.specs.Table.{State, Me, step, keeps, takes, gives, Allows}
 use Rattle.atomic_table.proofs.Lists.{set_here, set_else, at_last, at_longer}
 use Rattle.disk_ring.specs.declared.board.Known.{Known}
-use Rattle.disk_ring.specs.Rule.{Whole, Ruled, Law, bit}
+use Rattle.disk_ring.specs.Rule.{Flow, Ruled, Law, bit}
 use Rattle.disk_ring.specs.Steps.{NoRoom, SawHead, Sent, Shut, RecalledIn}
 use Rattle.disk_ring.proofs.Seats.{Moves, seated, still_takes, still_told}
 use Rattle.disk_ring.proofs.Slots.{apart, Goes, looks, sized, unread}
@@ -30,13 +30,13 @@ module _ {S T : Type 0} (value : S → T) (room_of : T → ℕ) where
   Saw n me = SawHead value room_of (step n 0 0 0 none) me
 
   -- the producer takes a slot
-  fills : (w : Whole T) (id : ℕ) → id ≡ w.producer → Moves w (record w { filling = true }) id
+  fills : (w : Flow T) (id : ℕ) → id ≡ w.producer → Moves w (record w { filling = true }) id
   fills w id mine = record { log = prefix_refl w.log; shut = λ e. (e, refl); got = le_refl w.got; producer = refl; consumer = refl; not_producer = λ other. absurd (other mine); not_consumer = λ _. (refl, refl) }
 
   sees_full : (room n : ℕ) (s : State S K) (r : R room n s) (id : ℕ) (me : Me S K) → get_elem? s.views id ≡ some me.0 → me.0.sends ≡ true
       → NoRoom n me.0.sent (get_or s.words 0 0) → Goes value room_of room s 0 id me (Saw n me) (get_or s.words 0 0)
   sees_full room n s r id me at sends full =
-      let f = r.each_seat id me.0 at in let w = r.whole in let x : ℕ = get_or s.words 0 0 in let is : x ≡ w.got = r.head in
+      let f = r.each_seat id me.0 at in let w = r.flow in let x : ℕ = get_or s.words 0 0 in let is : x ≡ w.got = r.head in
       let long : length me.0.sent ≡ length w.log = ap length (f.sends sends).sent_is in let behind = r.behind in let within = r.within in let up = f.got in
       let v : K = record me.0 { got = x; heads = me.0.heads ++ x ∷ [] } in (
         v,
@@ -49,17 +49,17 @@ module _ {S T : Type 0} (value : S → T) (room_of : T → ℕ) where
   sees_free : (room n : ℕ) (s : State S K) (r : R room n s) (id : ℕ) (me : Me S K) → get_elem? s.views id ≡ some me.0 → me.0.sends ≡ true → me.0.filling ≡ false
       → ¬ NoRoom n me.0.sent (get_or s.words 0 0) → Goes value room_of room s 0 id me (Saw n me) (get_or s.words 0 0)
   sees_free room n s r id me at sends resting free =
-      let f = r.each_seat id me.0 at in let p = f.sends sends in let w = r.whole in let x : ℕ = get_or s.words 0 0 in let is : x ≡ w.got = r.head in let k : ℕ = length w.log in
+      let f = r.each_seat id me.0 at in let p = f.sends sends in let w = r.flow in let x : ℕ = get_or s.words 0 0 in let is : x ≡ w.got = r.head in let k : ℕ = length w.log in
       let long : length me.0.sent ≡ k = ap length p.sent_is in let behind = r.behind in let within = r.within in let small = r.small in let up = f.got in
       let not_deep : ¬ (k ≡ w.got + n) = λ e. free (inl (omega arith)) in let not_most : ¬ (k ≡ 2 ^ 62) = λ e. free (inr (long ∙ e)) in
       let item = r.stocked k (omega arith) (omega arith) (λ e. nil_from_length w.held (omega arith)) (λ _. sym p.filling_is ∙ resting) in
-      let w' : Whole T = record w { filling = true } in let v : K = record me.0 { got = x; filling = true } in let moves = fills w id p.mine in
+      let w' : Flow T = record w { filling = true } in let v : K = record me.0 { got = x; filling = true } in let moves = fills w id p.mine in
       let slot : ℕ = length me.0.sent % n in let there : slot ≡ k % n = ap (λ z. z % n) long in (
         v,
         takes slot item.0,
         ap (get_elem? s.homes) there ∙ item.1,
         unread value room_of room n s.words 0 (set s.homes slot none) (set s.views id v) record {
-          whole = w';
+          flow = w';
           some_slot = r.some_slot;
           deep = length-set s.homes slot none ∙ r.deep;
           wide = r.wide;
@@ -87,10 +87,10 @@ module _ {S T : Type 0} (value : S → T) (room_of : T → ℕ) where
       dite (no_room n me.0.sent (get_or s.words 0 0)) (sees_full room n s r id me at sends) (sees_free room n s r id me at sends resting)
 
   -- the log grows by the item in hand
-  grown : Whole T → T → Whole T
+  grown : Flow T → T → Flow T
   grown w x = record w { log = w.log ++ x ∷ []; filling = false }
 
-  grows : (w : Whole T) (id : ℕ) (x : T) → id ≡ w.producer → w.shut ≡ false → Moves w (grown w x) id
+  grows : (w : Flow T) (id : ℕ) (x : T) → id ≡ w.producer → w.shut ≡ false → Moves w (grown w x) id
   unfolding grown
   grows w id x mine still_open = record {
     log = prefix-append w.log (x ∷ []);
@@ -110,13 +110,13 @@ module _ {S T : Type 0} (value : S → T) (room_of : T → ℕ) where
       }
   unfolding grown
   appended room n id v y s r at sends filling still_open roomy =
-      let f = r.each_seat id v at in let p = f.sends sends in let w = r.whole in let k : ℕ = length w.log in let x : T = value y in
+      let f = r.each_seat id v at in let p = f.sends sends in let w = r.flow in let k : ℕ = length w.log in let x : T = value y in
       let long : length v.sent ≡ k = ap length p.sent_is in let behind = r.behind in let ready = r.fillable (sym p.filling_is ∙ filling) in let here = ready.0 in let small = ready.1 in
       let shut : w.shut ≡ false = sym p.closed_is ∙ still_open in let moves = grows w id x p.mine shut in let w' = grown w x in let slot : ℕ = length v.sent % n in
       let there : slot ≡ k % n = ap (λ z. z % n) long in let more : length (w.log ++ x ∷ []) ≡ k + 1 = length-append w.log (x ∷ []) in let bit_is : bit w.shut ≡ 0 = ap bit shut in
       let deep = r.deep in let wide = r.wide in let near : slot < n = mod-lt (length v.sent) r.some_slot in let new : ℕ = 2 * (length v.sent + 1) in
       let v' : K = record v { sent = v.sent ++ x ∷ []; filling = false } in record {
-        whole = w';
+        flow = w';
         some_slot = r.some_slot;
         deep = length-set s.homes slot (some y) ∙ deep;
         wide = length-set s.words 1 new ∙ wide;
@@ -160,12 +160,12 @@ module _ {S T : Type 0} (value : S → T) (room_of : T → ℕ) where
       (λ i. (sym new_is i, sym (hand ∙ ap (λ (k : ℕ). (k, y) ∷ []) slot_is) i)) (appends_in_hand room n id me.0 y sends filling still_open roomy)
 
   -- the ring is closed
-  closes : (w : Whole T) (id : ℕ) → id ≡ w.producer → Moves w (record w { shut = true }) id
+  closes : (w : Flow T) (id : ℕ) → id ≡ w.producer → Moves w (record w { shut = true }) id
   closes w id mine = record { log = prefix_refl w.log; shut = λ e. (refl, refl); got = le_refl w.got; producer = refl; consumer = refl; not_producer = λ other. absurd (other mine); not_consumer = λ _. (refl, refl) }
 
   pub shuts : (room n id : ℕ) (me : Me S K) (new : ℕ) → me.0.sends ≡ true → new ≡ 2 * length me.0.sent + 1 → Allows (Law value room_of room) n id me 1 (λ _. new) (λ _. Shut me)
   shuts room n id me new sends new_is s law wide at _ =
-      let r = sized value room_of room n s law wide in let f = r.each_seat id me.0 at in let p = f.sends sends in let w = r.whole in let w' : Whole T = record w { shut = true } in let moves = closes w id p.mine in
+      let r = sized value room_of room n s law wide in let f = r.each_seat id me.0 at in let p = f.sends sends in let w = r.flow in let w' : Flow T = record w { shut = true } in let moves = closes w id p.mine in
       let long : length me.0.sent ≡ length w.log = ap length p.sent_is in let words = r.wide in let v : K = record me.0 { closed = true } in (
         v,
         keeps,
@@ -173,7 +173,7 @@ module _ {S T : Type 0} (value : S → T) (room_of : T → ℕ) where
         (
           n,
           record {
-            whole = w';
+            flow = w';
             some_slot = r.some_slot;
             deep = r.deep;
             wide = length-set s.words 1 new ∙ r.wide;

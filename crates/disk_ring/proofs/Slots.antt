@@ -27,10 +27,10 @@ module _ {S T : Type 0} (value : S → T) (room_of : T → ℕ) where
       subst (λ (ws : List ℕ). Law value room_of room record { words = ws; homes = homes; views = views }) (sym (set-get_or words i 0)) (n, r)
 
   -- a load that changes no more than what its seat knows
-  pub looks : (room n : ℕ) (s : State S (Known T)) (r : Ruled value room_of room n s) (i id : ℕ) (v : Known T) → Fits room r.whole id v
+  pub looks : (room n : ℕ) (s : State S (Known T)) (r : Ruled value room_of room n s) (i id : ℕ) (v : Known T) → Fits room r.flow id v
       → Law value room_of room record { words = set s.words i (get_or s.words i 0); homes = s.homes; views = set s.views id v }
   looks room n s r i id v mine = unread room n s.words i s.homes (set s.views id v) record {
-    whole = r.whole;
+    flow = r.flow;
     some_slot = r.some_slot;
     deep = r.deep;
     wide = r.wide;
@@ -41,7 +41,7 @@ module _ {S T : Type 0} (value : S → T) (room_of : T → ℕ) where
     small = r.small;
     fillable = r.fillable;
     stocked = r.stocked;
-    each_seat = seated room r.whole r.whole id s.views v (still r.whole id) r.each_seat mine;
+    each_seat = seated room r.flow r.flow id s.views v (still r.flow id) r.each_seat mine;
   }
 
   -- the rule at the number of slots that the table has

@@ -10,7 +10,7 @@ use base.Growing.{prefix_refl}
 use Rattle.atomic_table.specs.Table.{State, Me, step, keeps, takes, gives, Allows}
 use Rattle.atomic_table.proofs.Lists.{set_here, set_else}
 use Rattle.disk_ring.specs.declared.board.Known.{Known}
-use Rattle.disk_ring.specs.Rule.{Whole, Ruled, Law, bit}
+use Rattle.disk_ring.specs.Rule.{Flow, Ruled, Law, bit}
 use Rattle.disk_ring.specs.Steps.{close_bit, SawTail, Received, RecalledOut}
 use Rattle.disk_ring.proofs.Beginnings.{begins_length, whole, shorter, next_at}
 use Rattle.disk_ring.proofs.Seats.{Moves, seated, still_sends}
@@ -38,7 +38,7 @@ module _ {S T : Type 0} (value : S → T) (room_of : T → ℕ) where
   sees_nothing : (room n : ℕ) (s : State S K) (r : R room n s) (id : ℕ) (me : Me S K) → get_elem? s.views id ≡ some me.0 → me.0.takes ≡ true → me.0.held ≡ []
       → get_or s.words 1 0 / 2 ≡ length me.0.received → Goes value room_of room s 1 id me (Saw n me) (get_or s.words 1 0)
   sees_nothing room n s r id me at mine empty none_left =
-      let f = r.each_seat id me.0 at in let c = f.takes mine in let w = r.whole in let x : ℕ = get_or s.words 1 0 in let xs = me.0.received in
+      let f = r.each_seat id me.0 at in let c = f.takes mine in let w = r.flow in let x : ℕ = get_or s.words 1 0 in let xs = me.0.received in
       let number : x / 2 ≡ length w.log = ap (λ z. z / 2) r.tail ∙ number_of (length w.log) w.shut in let shut : close_bit x ≡ w.shut = ap close_bit r.tail ∙ bit_of (length w.log) w.shut in
       let begun : IsPrefix xs w.log = subst (λ (z : List T). IsPrefix z w.log) (ap (λ z. xs ++ z) empty ∙ append-nil xs) c.begins in
       let all : xs ≡ w.log = whole xs w.log begun (sym none_left ∙ number) in
@@ -65,10 +65,10 @@ module _ {S T : Type 0} (value : S → T) (room_of : T → ℕ) where
       )
 
   -- the consumer takes a slot
-  holding : Whole T → T → Whole T
+  holding : Flow T → T → Flow T
   holding w x = record w { held = x ∷ [] }
 
-  holds_one : (w : Whole T) (id : ℕ) (x : T) → id ≡ w.consumer → Moves w (holding w x) id
+  holds_one : (w : Flow T) (id : ℕ) (x : T) → id ≡ w.consumer → Moves w (holding w x) id
   unfolding holding
   holds_one w id x mine = record { log = prefix_refl w.log; shut = λ e. (e, refl); got = le_refl w.got; producer = refl; consumer = refl; not_producer = λ _. (refl, refl, refl); not_consumer = λ other. absurd (other mine) }
 
@@ -76,7 +76,7 @@ module _ {S T : Type 0} (value : S → T) (room_of : T → ℕ) where
       → get_or s.words 1 0 / 2 ≢ length me.0.received → Goes value room_of room s 1 id me (Saw n me) (get_or s.words 1 0)
   unfolding holding
   sees_item room n s r id me at mine empty more =
-      let f = r.each_seat id me.0 at in let c = f.takes mine in let w = r.whole in let x : ℕ = get_or s.words 1 0 in let xs = me.0.received in let counted = c.counted in
+      let f = r.each_seat id me.0 at in let c = f.takes mine in let w = r.flow in let x : ℕ = get_or s.words 1 0 in let xs = me.0.received in let counted = c.counted in
       let number : x / 2 ≡ length w.log = ap (λ z. z / 2) r.tail ∙ number_of (length w.log) w.shut in let shut : close_bit x ≡ w.shut = ap close_bit r.tail ∙ bit_of (length w.log) w.shut in
       let begun : IsPrefix xs w.log = subst (λ (z : List T). IsPrefix z w.log) (ap (λ z. xs ++ z) empty ∙ append-nil xs) c.begins in
       let behind = r.behind in let within = r.within in let pos = r.some_slot in let told = begins_length me.0.heard w.log f.heard in
@@ -89,7 +89,7 @@ module _ {S T : Type 0} (value : S → T) (room_of : T → ℕ) where
         takes slot item.0,
         ap (get_elem? s.homes) there ∙ item.1,
         unread value room_of room n s.words 1 (set s.homes slot none) (set s.views id v) record {
-          whole = w';
+          flow = w';
           some_slot = r.some_slot;
           deep = length-set s.homes slot none ∙ r.deep;
           wide = r.wide;
@@ -125,10 +125,10 @@ module _ {S T : Type 0} (value : S → T) (room_of : T → ℕ) where
       dite (ℕ_discrete (get_or s.words 1 0 / 2) (length me.0.received)) (sees_nothing room n s r id me at mine empty) (sees_item room n s r id me at mine empty)
 
   -- the item in hand is received
-  freed : Whole T → Whole T
+  freed : Flow T → Flow T
   freed w = record w { got = w.got + 1; held = [] }
 
-  frees : (w : Whole T) (id : ℕ) → id ≡ w.consumer → Moves w (freed w) id
+  frees : (w : Flow T) (id : ℕ) → id ≡ w.consumer → Moves w (freed w) id
   unfolding freed
   frees w id mine = record { log = prefix_refl w.log; shut = λ e. (e, refl); got = omega arith; producer = refl; consumer = refl; not_producer = λ _. (refl, refl, refl); not_consumer = λ other. absurd (other mine) }
 
@@ -140,12 +140,12 @@ module _ {S T : Type 0} (value : S → T) (room_of : T → ℕ) where
       }
   unfolding freed
   received room n id v x y s r at mine holds roomy =
-      let f = r.each_seat id v at in let c = f.takes mine in let w = r.whole in let xs = v.received in let counted = c.counted in let new : ℕ = length xs + 1 in
+      let f = r.each_seat id v at in let c = f.takes mine in let w = r.flow in let xs = v.received in let counted = c.counted in let new : ℕ = length xs + 1 in
       let one : length w.held ≡ 1 = ap length (sym c.held_is ∙ holds) in let behind = r.behind in let within = r.within in let deep = r.deep in let wide = r.wide in
       let moves = frees w id c.mine in let w' = freed w in let slot : ℕ = length xs % n in let near : slot < n = mod-lt (length xs) r.some_slot in
       let there : slot ≡ w.got % n = ap (λ z. z % n) counted in let v' : K = record v { received = xs ++ v.held; held = [] } in
       let held_one : length v.held ≡ 1 = ap length holds in let longer = length-append xs v.held in record {
-        whole = w';
+        flow = w';
         some_slot = r.some_slot;
         deep = length-set s.homes slot (some y) ∙ deep;
         wide = length-set s.words 0 new ∙ wide;
@@ -197,6 +197,6 @@ module _ {S T : Type 0} (value : S → T) (room_of : T → ℕ) where
 
   pub recalls_out : (room n id : ℕ) (me : Me S K) → me.0.takes ≡ true → Allows (Law value room_of room) n id me 1 (λ x. x) (λ _. RecalledOut (step n 1 0 0 none) me)
   recalls_out room n id me mine s law wide at _ =
-      let r = sized value room_of room n s law wide in let f = r.each_seat id me.0 at in let c = f.takes mine in let w = r.whole in let counted = c.counted in let up = f.got in
+      let r = sized value room_of room n s law wide in let f = r.each_seat id me.0 at in let c = f.takes mine in let w = r.flow in let counted = c.counted in let up = f.got in
       let told = begins_length me.0.heard w.log f.heard in let within = r.within in
       (me.0, keeps, tt, looks value room_of room n s r 1 id me.0 f, record { within = omega arith; got = omega arith; same = refl })

@@ -3,11 +3,19 @@ use Rattle.std.specs.Prelude.{◌≡◌, ℕ, ◌%◌, ◌^◌, ◌<◌, ◌≤�
 use Rattle.atomic_table.specs.Seated.{TableId}
 use Rattle.atomic_table.specs.declared.shared.Seat.{Seat}
 use Rattle.disk_ring.specs.declared.board.Known.{Known}
+use Rattle.disk_ring.specs.Rule.{opening_view}
 
 module _ {S T : Type 0} where
   -- the same seat, and the table that it was at
   abbrev pub IsSameSeat : Seat S (Known T) → Seat S (Known T) → Type 0
   IsSameSeat p q = (q.table_id ≡ p.table_id) × (q.id ≡ p.id)
+
+  -- the first seat at the table of a new ring
+  pub record IsFirst (z : TableId) (room depth : ℕ) (p : Seat S (Known T)) : Type 0 where
+    pub table : p.table_id ≡ z
+    pub words : z.words ≡ 2
+    pub slots : z.slots ≡ depth
+    pub me : p.me ≡ (opening_view room, [])
 
   -- the producer's seat at this table, between two calls
   pub record IsProducer (z : TableId) (p : Seat S (Known T)) : Type 0 where

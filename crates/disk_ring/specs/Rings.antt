@@ -17,17 +17,26 @@ pub record Passed {T : Type 0} (depth : ℕ) (sent : List T) (closed : Bool) (re
   pub all : ended ≡ true → (closed ≡ true) × (received ≡ sent)
   -- no more items wait than there are boxes
   pub within : length sent ≤ length received + depth
+  -- a ring takes no more than this
   pub small : length sent ≤ 2 ^ 62
 
 -- a ring whose two ends were joined again
 pub record Joined (T : Type 0) : Type 0 where
+  -- how many boxes it has
   pub depth : ℕ
+  -- the room of each box
   pub room : ℕ
+  -- every item that was put, in order
   pub sent : List T
+  -- whether it was closed
   pub closed : Bool
+  -- the head of each load by which `put` answered Full
   pub heads : List ℕ
+  -- every item that was taken, in order
   pub received : List T
+  -- the tail of each load by which `take` answered Empty or Closed
   pub tails : List ℕ
+  -- whether `take` answered Closed
   pub ended : Bool
 
 module _ {T : Type 0} where
@@ -44,7 +53,9 @@ module _ {T : Type 0} where
 
   -- what is so of two ends of one ring when they meet
   pub record Met (a : Sender T) (b : Receiver T) : Type 0 where
+    -- they are of one depth
     pub depth : b.depth ≡ a.depth
+    -- what was received is of what was sent
     pub passed : Passed a.depth a.sent a.closed b.received b.ended
     -- what the consumer was told before was so
     pub heard : IsPrefix b.heard a.sent

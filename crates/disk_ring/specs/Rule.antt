@@ -33,7 +33,7 @@ opening_view room = record {
 }
 
 -- what a ring has let through
-pub record Whole (T : Type 0) : Type 0 where
+pub record Flow (T : Type 0) : Type 0 where
   -- every item that was sent, in order
   pub log : List T
   -- how many of them were received
@@ -48,7 +48,7 @@ pub record Whole (T : Type 0) : Type 0 where
   -- the item that the consumer holds, if any
   pub held : List T
 
-module _ {T : Type 0} (room : ℕ) (w : Whole T) (seat : ℕ) where
+module _ {T : Type 0} (room : ℕ) (w : Flow T) (seat : ℕ) where
   -- the producer knows all that was sent
   pub record Produces (told : ℕ) (sent : List T) (closed filling : Bool) : Type 0 where
     pub mine : seat ≡ w.producer
@@ -80,21 +80,27 @@ module _ {S T : Type 0} (value : S → T) (room_of : T → ℕ) where
   Stocked room depth log homes k = (b : S) × (get_elem? homes (k % depth) ≡ some (some b))
       × (room_of (value b) ≡ room) × (k < length log → get_elem? log k ≡ some (value b))
 
+  -- the rule of a ring of this room and depth
   pub record Ruled (room depth : ℕ) (s : State S (Known T)) : Type 0 where
-    pub whole : Whole T
+    pub flow : Flow T
+    -- there is a slot, `depth` of them, and there are two words
     pub some_slot : 0 < depth
     pub deep : length s.homes ≡ depth
     pub wide : length s.words ≡ 2
-    pub head : slice_index_or s.words 0 0 ≡ whole.got
-    pub tail : slice_index_or s.words 1 0 ≡ 2 * length whole.log + bit whole.shut
-    pub behind : whole.got + length whole.held ≤ length whole.log
-    pub within : length whole.log ≤ whole.got + depth
-    pub small : length whole.log ≤ 2 ^ 62
-    pub fillable : whole.filling ≡ true → (length whole.log < whole.got + depth) × (length whole.log < 2 ^ 62)
+    -- what the two words say
+    pub head : slice_index_or s.words 0 0 ≡ flow.got
+    pub tail : slice_index_or s.words 1 0 ≡ 2 * length flow.log + bit flow.shut
+    -- what was received and what is held was sent, no more waits than there are boxes, and all of it is counted
+    pub behind : flow.got + length flow.held ≤ length flow.log
+    pub within : length flow.log ≤ flow.got + depth
+    pub small : length flow.log ≤ 2 ^ 62
+    -- a slot is in the producer's hand only where one more item has room
+    pub fillable : flow.filling ≡ true → (length flow.log < flow.got + depth) × (length flow.log < 2 ^ 62)
     -- each slot of this turn is stocked, but for the two that an end may hold
-    pub stocked : (k : ℕ) → whole.got ≤ k → k < whole.got + depth → (k ≡ whole.got → whole.held ≡ [])
-        → (k ≡ length whole.log → whole.filling ≡ false) → Stocked room depth whole.log s.homes k
-    pub each_seat : (j : ℕ) (v : Known T) → get_elem? s.views j ≡ some v → Fits room whole j v
+    pub stocked : (k : ℕ) → flow.got ≤ k → k < flow.got + depth → (k ≡ flow.got → flow.held ≡ [])
+        → (k ≡ length flow.log → flow.filling ≡ false) → Stocked room depth flow.log s.homes k
+    -- what each seat knows is so
+    pub each_seat : (j : ℕ) (v : Known T) → get_elem? s.views j ≡ some v → Fits room flow j v
 
   -- a ring of boxes of this room, of some depth
   abbrev pub Law : ℕ → State S (Known T) → Type 0

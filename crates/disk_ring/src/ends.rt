@@ -1,7 +1,7 @@
 //! How a ring is made.
 ghost use Rattle.std.specs.Prelude.{◌≡◌, ℕ, ◌<◌, [], true, false, length, All, IfOk};
 ghost use Rattle.disk_ring.specs.Rings.{IsNewRing, AllOfRoom};
-ghost use Rattle.disk_ring.specs.Rule.{opening_view};
+ghost use Rattle.disk_ring.specs.Places.{IsFirst};
 
 use crate::board::{Board, Place};
 use crate::plays::Part;
@@ -21,8 +21,8 @@ fn new_board<T: Roomy + Drop>(
 ) -> Result<(Board<T>, Place<T>), NoMemory>
     requires some { 0 < length husks.items }
     requires room { AllOfRoom T.room_of room husks.items }
-    ensures { IfOk result (λ r. (r.1.table_id ≡ r.0.shared.table_id) × (r.1.me ≡ (opening_view room, []))
-        × (r.0.shared.table_id.words ≡ 2) × (r.0.shared.table_id.slots ≡ length husks.items)) }
+    ensures { IfOk result (λ r.
+        IsFirst r.0.shared.table_id room (length husks.items) r.1) }
 {
     match Table::new(alloc, &[0, 0], husks, &room) {
         Ok(made) => Ok(made),
@@ -35,7 +35,8 @@ fn part<T: Roomy>(board: &Board<T>, first: &mut Place<T>) -> Place<T>
     requires table { first.old.table_id ≡ board.now.shared.table_id }
     requires words { board.now.shared.table_id.words ≡ 2 }
     requires both { (first.old.me.0.sends ≡ true) × (first.old.me.0.takes ≡ true) }
-    ensures same { (first.new.table_id ≡ first.old.table_id) × (result.table_id ≡ first.old.table_id) }
+    ensures same { first.new.table_id ≡ first.old.table_id }
+    ensures other { result.table_id ≡ first.old.table_id }
     ensures producer { first.new.me ≡ (record first.old.me.0 { takes = false }, first.old.me.1) }
     ensures consumer { result.me ≡ (record first.old.me.0 { sends = false }, []) }
 {

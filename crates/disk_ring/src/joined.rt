@@ -7,7 +7,7 @@ ghost use Rattle.disk_ring.specs.Rings.{Met, Whole, joined_of};
 use crate::ring_in::RingIn;
 use crate::ring_out::RingOut;
 use crate::roomy::Roomy;
-use crate::tells::{tell_consumer, tell_producer, tell_rumour};
+use crate::tells::{tell_consumer, tell_heard, tell_producer};
 use std::marker::Model;
 
 /// A ring whose two ends are in one place again.
@@ -36,7 +36,7 @@ pub fn meet<T: Roomy>(a: &mut RingIn<T>, b: &mut RingOut<T>)
     ensures sender_goes_on { GoesOnIn a.old a.new }
     ensures receiver_goes_on { GoesOnOut b.old b.new }
 {
-    tell_rumour(&a.board, &mut a.seat, &mut b.seat);
+    tell_heard(&a.board, &mut a.seat, &mut b.seat);
     tell_consumer(&a.board, &mut b.seat, &mut a.seat);
     tell_producer(&a.board, &mut a.seat, &mut b.seat);
 }

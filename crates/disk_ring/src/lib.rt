@@ -1,4 +1,4 @@
-//! A ring of one producer and one consumer that swaps boxes, so no call of theirs takes memory or waits.
+//! A ring of one producer and one consumer that swaps boxes, so putting and taking need no memory.
 #![tactic(auto)]
 
 mod board;

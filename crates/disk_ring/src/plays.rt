@@ -1,6 +1,7 @@
 //! What each step tells. These types are for the proofs alone.
 ghost use Rattle.std.specs.Prelude.{[], false, length};
-ghost use Rattle.disk_ring.specs.Steps.{SawHead, Sent, Shut, SawTail, Received, RecalledIn, RecalledOut, note, hears, hears_list};
+ghost use Rattle.disk_ring.specs.Steps.{SawHead, Sent, Shut, SawTail, Received};
+ghost use Rattle.disk_ring.specs.Steps.{RecalledIn, RecalledOut, note, hears, hears_list};
 
 use crate::board::Known;
 use crate::roomy::Roomy;
@@ -83,9 +84,9 @@ impl<T> Split<Known<T>> for NoteOut {
 }
 
 /// The consumer writes what it was told into a note.
-pub(crate) struct Pass;
+pub(crate) struct NoteHeard;
 
-impl<T> Split<Known<T>> for Pass {
+impl<T> Split<Known<T>> for NoteHeard {
     ghost left = { λ v. v };
 
     ghost right = { λ v. note v.heard v.over v.got };

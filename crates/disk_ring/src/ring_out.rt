@@ -29,7 +29,8 @@ impl<T: Roomy> Model for RingOut<T> {
 
     ghost view = { λ r. receiver_of r.seat r.depth };
 
-    ghost invariant = { λ r. ReceiverOk (arc_value r.board).shared.table_id r.seat r.count r.depth };
+    ghost invariant = { λ r.
+        ReceiverOk (arc_value r.board).shared.table_id r.seat r.count r.depth };
 }
 
 // The answer of an end that received all, by the close bit of the tail word.

@@ -4,11 +4,11 @@ ghost use mathlib.Core.List.{IsPrefix};
 ghost use Rattle.disk_ring.specs.Places.{IsSameSeat, IsProducer, IsConsumer};
 
 use crate::board::{Board, HEAD, Place, TAIL};
-use crate::plays::{Hear, HearList, NoteIn, NoteOut, Pass, RecallIn, RecallOut};
+use crate::plays::{Hear, HearList, NoteHeard, NoteIn, NoteOut, RecallIn, RecallOut};
 use crate::roomy::Roomy;
 
 /// The producer hears what the consumer had been told.
-pub(crate) fn tell_rumour<T: Roomy>(
+pub(crate) fn tell_heard<T: Roomy>(
     board: &Board<T>,
     producer: &mut Place<T>,
     consumer: &mut Place<T>,
@@ -26,7 +26,7 @@ pub(crate) fn tell_rumour<T: Roomy>(
     ensures over { consumer.old.me.0.over ≡ true → (producer.old.me.0.closed ≡ true)
         × (consumer.old.me.0.heard ≡ producer.old.me.0.sent) }
 {
-    let note = board.shared.split_seat::<Pass>(consumer);
+    let note = board.shared.split_seat::<NoteHeard>(consumer);
     board.shared.join_seat::<HearList>(producer, note);
     board.shared.load::<RecallIn>(producer, HEAD);
 }

@@ -1,7 +1,7 @@
 use Rattle.std.proofs.Common.{arith, ap, ◌∙◌}
 use Rattle.disk_ring.proofs.Notes.{notes_on, joins_list}
 use Rattle.disk_ring.proofs.Sends.{recalls_in}
-use Rattle.disk_ring.proofs.tells.tell_rumour.Goals as goal
+use Rattle.disk_ring.proofs.tells.tell_heard.Goals as goal
 
 pub split_seat-note-requires : goal.split_seat-note-requires
 split_seat-note-requires g c = let q = c.requires.consumer in let words = q.words in (q.table, omega arith, notes_on _ g.T.Roomy.room_of _ _ _)
