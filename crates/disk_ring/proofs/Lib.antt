@@ -6,3 +6,4 @@ pub mod Takes
 pub mod Notes
 pub mod GoesOn
 pub mod Hands
+pub mod Meetings

@@ -10,6 +10,7 @@ use std::alloc::Global;
 use std::test::Fail;
 
 mod lists;
+mod meetings;
 mod threads;
 
 /// An item that is told by its number.
