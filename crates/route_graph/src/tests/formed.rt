@@ -73,7 +73,7 @@ fn is_formed_route(s: &Session, place: usize, q: &Route) -> bool
     if !is_kind(s, place, q) {
         return false;
     }
-    if !leads_on(s, q) {
+    if !leads_on(s, q) || q.sends.room() < 8 {
         return false;
     }
     sends_formed(s, q)
