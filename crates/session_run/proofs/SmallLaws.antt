@@ -9,6 +9,7 @@ use Rattle.std.proofs.lemmas.Bool.Decides.{nat_tests}
 use Rattle.std.proofs.lemmas.List.{take-append-drop, append-nil, length-drop}
 use Rattle.std.proofs.lemmas.List.Elements.{All-drop}
 use Rattle.std.proofs.lemmas.Slice.Eq.{bytes_eq-Decides}
+use Rattle.sound_laws.proofs.NumberLaws.{times-over}
 use Rattle.sound_model.specs.Numbers.{bounded, file_sample, inner, signed, twos_complement, sample_bytes}
 use Rattle.sound_model.specs.Wav.{header, canon, sound_bytes}
 use Rattle.sound_laws.proofs.WrittenLaws.{length-sound_bytes}
@@ -17,12 +18,6 @@ use Rattle.session_run.specs.Laws.{SmallSourcesAreWritten}
 use Rattle.session_run.proofs.SourceLaws.{IsSmall, small_is}
 
 -- ---- two bytes are read and written again
-
-times-over : (y : ℤ) → int_div_euclid (y *ℤ pos 256) (pos 256) ≡ y
-times-over (pos n) = ap pos (omega arith)
-times-over (negsuc n) =
-    let whole : suc n * 256 ≡ suc (n * 256 + 255) = omega arith in
-    rw whole (ap negsuc (omega arith))
 
 bounded-inside : (v : ℤ) → neg_ℤ (pos 32768) ≤ℤ v → v ≤ℤ pos 32767 → bounded (neg_ℤ (pos 32768)) (pos 32767) v ≡ v
 bounded-inside v low high = grind (arith, ints)

@@ -32,7 +32,7 @@ zero-plus s = omega (arith, ints)
 pub plus-zero : (s : ℤ) → s +ℤ pos 0 ≡ s
 plus-zero s = omega (arith, ints)
 
-times-over : (y : ℤ) → int_div_euclid (y *ℤ pos 256) (pos 256) ≡ y
+pub times-over : (y : ℤ) → int_div_euclid (y *ℤ pos 256) (pos 256) ≡ y
 times-over (pos n) = ap pos (omega arith)
 times-over (negsuc n) =
     let whole : suc n * 256 ≡ suc (n * 256 + 255) = omega arith in

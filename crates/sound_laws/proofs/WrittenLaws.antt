@@ -1,5 +1,5 @@
 -- A file that was written is read back: its head, and its sound.
-use Rattle.std.proofs.Common.{◌≡◌, ℕ, zero, suc, ◌+◌, ◌-◌, ◌*◌, ◌/◌, ◌%◌, ◌^◌, ◌≤◌, ◌<◌, ◌⊎◌, inl, inr, Bool, true, false, cond, ◌&&◌, ◌||◌, nat_lt, nat_le, refl, ap, arith, ◌∙◌, sym, List, [], ◌∷◌, ◌++◌, length, drop, replicate, Some, None, Ok}
+use Rattle.std.proofs.Common.{◌≡◌, ℕ, zero, suc, ◌+◌, ◌-◌, ◌*◌, ◌/◌, ◌%◌, ◌^◌, ◌≤◌, ◌<◌, ◌⊎◌, inl, inr, Bool, true, false, cond, ◌&&◌, ◌||◌, nat_lt, nat_le, refl, ap, arith, ◌∙◌, sym, subst, List, [], ◌∷◌, ◌++◌, length, drop, replicate, Some, None, Ok}
 use Rattle.std.specs.Prelude.{codes, not, ℤ, ◌==◌}
 use Rattle.std.specs.Int.{bytes_low_first}
 use Rattle.std.proofs.lemmas.List.{length-append}
@@ -57,12 +57,12 @@ fields form samples h = go h.bits
     go (inl e) = record { channels = omega arith; rate = omega arith; bits = omega arith; block = rw e (omega arith) }
     go (inr e) = record { channels = omega arith; rate = omega arith; bits = omega arith; block = rw e (omega arith) }
 
-canon_stands : (form : Form) (samples : List ℤ) (bytes : ℕ) → IsWritten form samples → length (sound_bytes form.bits samples) ≡ bytes →
-    36 + bytes + bytes % 2 < 2 ^ 32 → Stands (canon form samples) form bytes
-unfolding canon header
-canon_stands form samples bytes h long fits = let f : Fields form = fields form samples h in
-    let all : length (sound_bytes form.bits samples) < 2 ^ 32 = omega arith in
-    let size : 36 + length (sound_bytes form.bits samples) + length (sound_bytes form.bits samples) % 2 < 2 ^ 32 = rw long fits in record {
+-- a header with as many bytes behind it as it tells, or more
+header_stands : (form : Form) (bytes : ℕ) (rest : List ℕ) → Fields form → 36 + bytes + bytes % 2 < 2 ^ 32 → bytes ≤ length rest →
+    Stands (header form bytes ++ rest) form bytes
+unfolding header
+header_stands form bytes rest f size enough =
+    let all : bytes < 2 ^ 32 = omega arith in record {
       riff = refl;
       wave = refl;
       format = refl;
@@ -75,9 +75,17 @@ canon_stands form samples bytes h long fits = let f : Fields form = fields form 
       rate = from_le_bytes-to_le_bytes_4 form.rate f.rate;
       block = from_le_bytes-to_le_bytes_2 (align form) f.block;
       bits = from_le_bytes-to_le_bytes_2 form.bits f.bits;
-      size = from_le_bytes-to_le_bytes_4 _ all ∙ long;
-      whole = omega (arith, length-append (sound_bytes form.bits samples) (replicate (length (sound_bytes form.bits samples) % 2) 0));
+      size = from_le_bytes-to_le_bytes_4 bytes all;
+      whole = omega arith;
     }
+
+canon_stands : (form : Form) (samples : List ℤ) (bytes : ℕ) → IsWritten form samples → length (sound_bytes form.bits samples) ≡ bytes →
+    36 + bytes + bytes % 2 < 2 ^ 32 → Stands (canon form samples) form bytes
+unfolding canon header
+canon_stands form samples bytes h long fits = let sound = sound_bytes form.bits samples in let pad = replicate (length sound % 2) 0 in
+    let size : 36 + length sound + length sound % 2 < 2 ^ 32 = rw long fits in
+    subst (λ n. Stands (canon form samples) form n) long
+    (header_stands form (length sound) (sound ++ pad) (fields form samples h) size (omega (arith, length-append sound pad)))
 
 -- a file that was written has all of its sound
 pub canon_holds : (form : Form) (samples : List ℤ) → IsWritten form samples → 44 + length samples * (form.bits / 8) ≤ length (canon form samples)
@@ -173,29 +181,8 @@ written_head_is_read told form samples h =
 
 -- ---- a header with anything behind it
 
-header_stands : (form : Form) (bytes : ℕ) (rest : List ℕ) → IsWritten form [] → 36 + bytes + bytes % 2 < 2 ^ 32 → bytes ≤ length rest →
-    Stands (header form bytes ++ rest) form bytes
-unfolding header
-header_stands form bytes rest h size enough = let f : Fields form = fields form [] h in
-    let all : bytes < 2 ^ 32 = omega arith in record {
-      riff = refl;
-      wave = refl;
-      format = refl;
-      no_data = refl;
-      data_after = refl;
-      told = omega (arith, from_le_bytes-to_le_bytes_4 _ size);
-      sixteen = refl;
-      tag = refl;
-      channels = from_le_bytes-to_le_bytes_2 form.channels f.channels;
-      rate = from_le_bytes-to_le_bytes_4 form.rate f.rate;
-      block = from_le_bytes-to_le_bytes_2 (align form) f.block;
-      bits = from_le_bytes-to_le_bytes_2 form.bits f.bits;
-      size = from_le_bytes-to_le_bytes_4 bytes all;
-      whole = omega arith;
-    }
-
 -- the head of a file that begins with a written header
 pub header_is_read : (told : Bool) (form : Form) (bytes : ℕ) (rest : List ℕ) → IsWritten form [] → 36 + bytes + bytes % 2 < 2 ^ 32 → bytes ≤ length rest →
     head told (header form bytes ++ rest) ≡ Ok (record { form = form; data_at = 44; frames = bytes / align form })
 header_is_read told form bytes rest h size enough =
-    head_stands told (header form bytes ++ rest) form bytes [] (header_stands form bytes rest h size enough) h
+    head_stands told (header form bytes ++ rest) form bytes [] (header_stands form bytes rest (fields form [] h) size enough) h
