@@ -1,0 +1,7 @@
+-- The proofs of the laws and what the reading rests on.
+pub mod FrameLaws
+pub mod SpanLaws
+pub mod PairLaws
+pub mod HeadLaws
+pub mod StretchLaws
+pub mod SourceLaws

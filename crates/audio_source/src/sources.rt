@@ -1,0 +1,152 @@
+//! The sources of a session: all opened at once, their frames read through one buffer.
+ghost use Rattle.std.specs.Prelude.{◌≡◌, ◌%◌, ◌<◌, ◌≤◌, length, map, slice_index, IfOk, IfErr, OnOk, All};
+ghost use Rattle.wav_codec.specs.Info.{IsFound};
+ghost use Rattle.ses_io.specs.Faults.{HasCause};
+ghost use Rattle.session_model.specs.Frames.{interleaved, IsSample};
+ghost use Rattle.audio_source.specs.Answers.{NamesFirst, IsRefusalOf, OpenCause};
+ghost use Rattle.audio_source.specs.Opened.{opened_of, channels_of, IsListedAs, IsListed, IsOpenedAs, IsOpened};
+ghost use Rattle.audio_source.specs.Told.{source_sound};
+
+use crate::entry::Entry;
+use crate::opening::{Unopened, opened};
+use crate::refusal::{OpenRefusal, ReadFault};
+use crate::stretch::read_frames;
+use ses_io::Media;
+use session_model::{FileName, SourceDecl, SourceList};
+use std::alloc::Global;
+use std::marker::Model;
+
+/// Opened sources. Contracts see the name of each file and the head that it had.
+#[derive(Drop)]
+pub struct Sources {
+    entries: Vec<Entry>,
+    // The bytes of 4,096 frames of the source with the most channels.
+    buffer: Vec<u8>,
+}
+
+impl Model for Sources {
+    ghost use Rattle.std.specs.Prelude.{List, map, All, vec_len};
+    ghost use Rattle.audio_source.specs.Opened.{Opened, opened_of, IsReadable};
+
+    ghost Value = { List Opened };
+
+    ghost view = { λ s. map opened_of s.entries.items };
+
+    ghost invariant = { λ s. All (IsReadable (vec_len s.buffer)) s.entries.items };
+}
+
+// Opens a source.
+fn entry_of<M: Media>(
+    alloc: Global,
+    media: &mut M,
+    d: &SourceDecl,
+    source: u32,
+    rate: u32,
+) -> Result<Entry, OpenRefusal>
+    ensures found { IfOk result (λ e. IsFound e.info) }
+    ensures listed { IfOk result (λ e. IsListedAs rate d.now (opened_of e)) }
+    ensures told { M.tells → IfOk result (λ e. IsOpenedAs (M.files media.old) rate d.now (opened_of e)) }
+    ensures refused { M.tells → IfErr result (IsRefusalOf (M.files media.old) rate d.now source) }
+    ensures files { M.files media.new ≡ M.files media.old }
+    ensures cause { OpenCause (M.read_faults media.old) (M.read_faults media.new) result }
+    ensures other_count { M.write_faults media.new ≡ M.write_faults media.old }
+{
+    let Ok(file) = FileName::new(alloc, d.file.as_str()) else {
+        return Err(OpenRefusal::NoMemory);
+    };
+    match opened(media, d.file.as_str(), rate, d.channels) {
+        Ok(info) => Ok(Entry { file, info }),
+        Err(Unopened::Refused(why)) => Err(OpenRefusal::File { source, why }),
+        Err(Unopened::Fault) => Err(OpenRefusal::ReadFault),
+    }
+}
+
+// Opens all sources, in their order.
+fn all_entries<M: Media>(
+    alloc: Global,
+    media: &mut M,
+    list: &SourceList,
+    rate: u32,
+) -> Result<Vec<Entry>, OpenRefusal>
+    ensures found { IfOk result (λ v. All (λ e. IsFound e.info) v.items) }
+    ensures listed { IfOk result (λ v. IsListed rate list.now.items (map opened_of v.items)) }
+    ensures told { M.tells → IfOk result
+        (λ v. IsOpened (M.files media.old) rate list.now.items (map opened_of v.items)) }
+    ensures refused { M.tells → IfErr result
+        (NamesFirst (M.files media.old) rate list.now.items) }
+    ensures files { M.files media.new ≡ M.files media.old }
+    ensures cause { OpenCause (M.read_faults media.old) (M.read_faults media.new) result }
+    ensures other_count { M.write_faults media.new ≡ M.write_faults media.old }
+{
+    let mut entries = Vec::new(alloc);
+    let decls = list.as_slice();
+    for source in 0..list.len() as u32 {
+        match entry_of(alloc, media, &decls[source as usize], source, rate) {
+            Ok(entry) => entries.push(entry)?,
+            Err(refusal) => return Err(refusal),
+        }
+    }
+    Ok(entries)
+}
+
+// The most channels of a source.
+fn widest(entries: &[Entry]) -> u16
+    ensures { All (λ e. e.info.channels ≤ result) entries.now }
+{
+    let mut widest = 0;
+    for entry in entries {
+        widest = entry.info.channels.max(widest);
+    }
+    widest
+}
+
+impl Sources {
+    /// Opens the source's files, each by its head. A refusal names the first source, in their order, whose file isn't
+    /// opened, and the first reason in the order of `FileRefusal`. It takes the memory of all later reads.
+    pub fn new<M: Media>(
+        alloc: Global,
+        media: &mut M,
+        list: &SourceList,
+        rate: u32,
+    ) -> Result<Sources, OpenRefusal>
+        ensures listed { IfOk result (IsListed rate list.now.items) }
+        ensures told { M.tells
+            → IfOk result (IsOpened (M.files media.old) rate list.now.items) }
+        ensures refused { M.tells
+            → IfErr result (NamesFirst (M.files media.old) rate list.now.items) }
+        ensures files { M.files media.new ≡ M.files media.old }
+        ensures cause { OpenCause (M.read_faults media.old) (M.read_faults media.new) result }
+        ensures other_count { M.write_faults media.new ≡ M.write_faults media.old }
+    {
+        let entries = all_entries(alloc, media, list, rate)?;
+        let room = 12_288 * usize::from(widest(&entries));
+        let buffer = vec![in alloc; 0; room]?;
+        Ok(Sources { entries, buffer })
+    }
+
+    /// Fills `out`, which holds whole frames, with the frames of a source from frame `from` on, and with 0 past its end.
+    /// Up to 4,096 frames are read in one, where the media gives them so. It takes no memory. After a fault the content
+    /// of `out` isn't said.
+    pub fn frames<M: Media>(
+        &mut self,
+        media: &mut M,
+        source: u32,
+        from: u64,
+        out: &mut [i32],
+    ) -> Result<(), ReadFault>
+        requires source { source < length self.old }
+        requires whole { length out.old % slice_index (channels_of self.old) source ≡ 0 }
+        ensures told { M.tells → OnOk result (out.new ≡ interleaved
+            (source_sound (M.files media.old) self.old source)
+            (slice_index (channels_of self.old) source) from (length out.new)) }
+        ensures range { OnOk result (All IsSample out.new) }
+        ensures sources { self.new ≡ self.old }
+        ensures files { M.files media.new ≡ M.files media.old }
+        ensures cause { HasCause (M.read_faults media.old) (M.read_faults media.new) result }
+        ensures other_count { M.write_faults media.new ≡ M.write_faults media.old }
+    {
+        let entry = &self.entries[source as usize];
+        read_frames(media, entry, self.buffer.as_mut_slice(), from, out)?;
+        Ok(())
+    }
+}
