@@ -1,17 +1,16 @@
 -- An edition stays the state of its opening session after its edits.
-use Rattle.std.proofs.Common.{◌≡◌, ℕ, zero, suc, ◌<◌, ◌≤◌, List, [], ◌∷◌, ◌++◌, length, refl, sym, ap, subst, arith, ◌∙◌, true≢false}
-use Rattle.std.specs.Prelude.{Bool, true, false, ◌==◌, ◌&&◌, if◌then◌else◌, Option, Some, None, Result, Ok, Err, IsOk, slice_get, slice_index_or}
+use Rattle.std.proofs.Common.{◌≡◌, ℕ, zero, suc, List, [], ◌∷◌, ◌++◌, length, refl, sym, ap, subst, arith, ◌∙◌, true≢false}
+use Rattle.std.specs.Prelude.{true, false, ◌==◌, if◌then◌else◌, Some, None, Result, Ok, IsOk, slice_index_or}
 use Rattle.std.specs.List.{list_all}
 use Rattle.std.proofs.lemmas.Bool.{and_parts, eqb-true}
 use Rattle.session_model.specs.declared.session.Session.{Session}
 use Rattle.session_model.specs.declared.edit.Edit.{Edit}
 use Rattle.session_model.specs.declared.edit.Edit.TheVariants.{Roll, Locate}
-use Rattle.engine_model.specs.Edits.{holds_at, touches, last_where, playlist_edition}
-use Rattle.engine_model.specs.Editions as engine
+use Rattle.engine_model.specs.Edits.{touches, last_where, playlist_edition}
 use Rattle.engine_model.specs.Transport as engine_transport
 use Rattle.engine_model.specs.Transport.{moved, at_rest}
 use Rattle.locate_loop.specs.Transport.{transport_of}
-use Rattle.engine_model.specs.Editions.{Edition, Refusal, opening, refusal, unless_refused, changed, apply, taken_up, after_one, edition, IsAccepted}
+use Rattle.engine_model.specs.Editions.{Edition, Refusal, refusal, unless_refused, changed, apply, taken_up, after_one, edition, IsAccepted}
 use Rattle.engine_laws.proofs.EditionLemmas.{at_the_end, one_longer, accepted_more, edition_stays}
 use Rattle.engine_laws.proofs.NumberLemmas.{last_stays}
 use Rattle.engine_laws.proofs.PlainLemmas.{held_at_the_end}

@@ -1,8 +1,7 @@
 -- The transport of an edition is the fold's.
-use Rattle.std.proofs.Common.{◌≡◌, ℕ, length, refl, ap, ◌∙◌, arith}
+use Rattle.std.proofs.Common.{length, ap, ◌∙◌, arith}
 use Rattle.engine_model.specs.Transport.{place_of}
 use Rattle.engine_laws.proofs.Laws.{editions_play_their_generation}
-use Rattle.edition_log.specs.Seen.{IsEditionOf}
 use Rattle.edition_log.specs.Laws.{EditionsPlayTheirPlaces}
 
 pub editions_play_their_places : EditionsPlayTheirPlaces

@@ -1,5 +1,4 @@
 -- Refusals as the definitions of the engine have them.
-use Rattle.std.specs.Prelude.{Option}
 use Rattle.engine_model.specs.Editions as engine
 use Rattle.edition_log.specs.declared.reason.Bound.{Bound}
 use Rattle.edition_log.specs.declared.reason.Bound.TheVariants.{Edits, Points, Sends, Regions}

@@ -1,5 +1,5 @@
 -- What contracts see of an edition, and when it is the state of an opening session after its edits.
-use Rattle.std.specs.Prelude.{◌≡◌, ℕ, ◌<◌, ◌≤◌, Bool, true, false, List, length, slice_index_or}
+use Rattle.std.specs.Prelude.{◌≡◌, ℕ, ◌<◌, ◌≤◌, Bool, false, List, length, slice_index_or}
 use Rattle.session_model.specs.declared.session.Session.{Session}
 use Rattle.session_model.specs.declared.edit.Edit.{Edit}
 use Rattle.session_model.specs.Valid.{IsValid}

@@ -1,8 +1,7 @@
 -- What an edit does to an edition.
-use Rattle.std.specs.Prelude.{◌≡◌, ◌<◌, ◌^◌, ℕ, Bool, true, false, List, [], ◌∷◌, ◌++◌, Option, Some, None, Result, Ok, Err}
+use Rattle.std.specs.Prelude.{◌≡◌, ◌<◌, ◌^◌, ℕ, Bool, true, false, [], ◌∷◌, ◌++◌, Some, None, Result, Ok, Err}
 use Rattle.session_model.specs.declared.edit.Edit.{Edit}
 use Rattle.session_model.specs.declared.edit.Edit.TheVariants.{Roll, Locate}
-use Rattle.engine_model.specs.Editions as engine
 use Rattle.engine_model.specs.Editions.{apply, refusal}
 use Rattle.edition_log.specs.declared.reason.Refusal.{Refusal}
 use Rattle.edition_log.specs.Reason.{refusal_of}

@@ -1,8 +1,8 @@
 -- The place after a frame's is that of the next frame.
-use Rattle.std.proofs.Common.{◌≡◌, ℕ, suc, ◌+◌, ◌-◌, ◌%◌, ◌<◌, ◌≤◌, Some, None, inl, inr, refl, sym, subst, arith, ◌∙◌}
-use Rattle.std.specs.Prelude.{if◌then◌else◌, Option, nat_lt, nat_le, nat_eq, IfSome}
+use Rattle.std.proofs.Common.{◌≡◌, ℕ, ◌+◌, ◌-◌, ◌%◌, ◌<◌, ◌≤◌, Some, None, inl, inr, sym, subst, arith, ◌∙◌}
+use Rattle.std.specs.Prelude.{if◌then◌else◌, Option, nat_eq, IfSome}
 use Rattle.std.specs.Option.{option_map}
-use Rattle.std.proofs.lemmas.Bool.{lt-ltb, le-leb, cases_lt, eq-eqb}
+use Rattle.std.proofs.lemmas.Bool.{lt-ltb, le-leb, cases_lt}
 use Rattle.std.proofs.Math.Nat.{mod-add-mod, mod_self, mod-eq_of_lt, mod-lt}
 use Rattle.engine_model.specs.Transport as engine
 use Rattle.engine_model.specs.Transport.{place_from, place_of}

@@ -1,4 +1,4 @@
-use Rattle.std.proofs.Common.{◌≡◌, ℕ, ◌+◌, ◌<◌, get_or, length}
+use Rattle.std.proofs.Common.{◌≡◌, ℕ, ◌+◌, ◌<◌, get_or}
 use Rattle.engine_model.specs.Transport.{place_of}
 use Rattle.locate_loop.specs.Transport.{transport_of}
 use Rattle.locate_loop.proofs.frames.places.Given as goal

@@ -1,4 +1,4 @@
-use Rattle.std.proofs.Common.{[], ◌∷◌, ◌++◌, ap, sym, ◌∙◌}
+use Rattle.std.proofs.Common.{[], ◌∷◌, ◌++◌, ap, ◌∙◌}
 use Rattle.engine_model.specs.Transport.{moved}
 use Rattle.locate_loop.specs.Transport.{transport_of}
 use Rattle.edition_log.proofs.KeepLemmas.{stays_applied}

@@ -1,0 +1,9 @@
+pub mod TwiceLaws
+pub mod PlaceLaws
+pub mod PlaylistLaws
+pub mod NumberedLaws
+pub mod RuleLaws
+pub mod LookLaws
+pub mod FeedLaws
+pub mod FormLaws
+pub mod SessionLaws

@@ -1,0 +1,6 @@
+-- What the contracts cite.
+pub mod Rules
+pub mod Built
+pub mod Apart
+pub mod Session
+pub mod Laws

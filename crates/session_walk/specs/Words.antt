@@ -1,0 +1,43 @@
+-- The words of a session's text.
+use Rattle.std.specs.Prelude.{ℕ, List, codes}
+use Rattle.session_model.specs.declared.key.Key.{Key}
+use Rattle.session_model.specs.declared.key.Key.TheVariants.{Session, Version, Rate, Bits, Channels, Block, Depth, Takes, Source, Name, File, Track, Input, Solo, Arm, Out, Gain, Mute, Left, Right, Mode, Lane, Send, To, Pre, Region, Id, Start, Length, At, Layer, Opaque, FadeIn, FadeOut, Bus, Master}
+
+-- the bytes that a key is written as
+unfoldable pub word : Key → List ℕ
+word Session = codes "session"
+word Version = codes "version"
+word Rate = codes "rate"
+word Bits = codes "bits"
+word Channels = codes "channels"
+word Block = codes "block"
+word Depth = codes "depth"
+word Takes = codes "takes"
+word Source = codes "source"
+word Name = codes "name"
+word File = codes "file"
+word Track = codes "track"
+word Input = codes "input"
+word Solo = codes "solo"
+word Arm = codes "arm"
+word Out = codes "out"
+word Gain = codes "gain"
+word Mute = codes "mute"
+word Left = codes "left"
+word Right = codes "right"
+word Mode = codes "mode"
+word Lane = codes "lane"
+word Send = codes "send"
+word To = codes "to"
+word Pre = codes "pre"
+word Region = codes "region"
+word Id = codes "id"
+word Start = codes "start"
+word Length = codes "length"
+word At = codes "at"
+word Layer = codes "layer"
+word Opaque = codes "opaque"
+word FadeIn = codes "fade_in"
+word FadeOut = codes "fade_out"
+word Bus = codes "bus"
+word Master = codes "master"

@@ -1,0 +1,22 @@
+//! A session's text in TOML, read part by part and key by key, or refused at the first key that is wrong.
+#![tactic(auto)]
+
+mod arrays;
+mod desk;
+mod fault;
+mod lane;
+mod laws;
+mod parts;
+mod said;
+mod section;
+mod text;
+mod values;
+mod words;
+
+pub use fault::SessionFault;
+pub use laws::written_is_in_range;
+pub use said::{
+    Fades, Head, Level, MasterText, Named, RegionText, Ride, RouteText, SendText, Span, Strip,
+    Taking, TrackOwn, TrackText, Written,
+};
+pub use text::written;
