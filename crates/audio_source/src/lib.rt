@@ -16,3 +16,6 @@ pub use laws::{frames_are_the_files, lists_hold_the_frames};
 pub use refusal::{FileRefusal, OpenRefusal, ReadFault};
 pub use sources::Sources;
 pub use view::SourceView;
+
+#[cfg(test)]
+mod tests;

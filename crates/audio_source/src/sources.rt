@@ -1,5 +1,5 @@
 //! The sources of a session: all opened at once, their frames read through one buffer.
-ghost use Rattle.std.specs.Prelude.{◌≡◌, ◌%◌, ◌<◌, ◌≤◌, length, map, slice_index, IfOk, IfErr, OnOk, All};
+ghost use Rattle.std.specs.Prelude.{◌≡◌, ◌%◌, ◌<◌, ◌≤◌, length, map, slice_index, IfOk, IfErr, OnOk, SomeIff, All};
 ghost use Rattle.wav_codec.specs.Info.{IsFound};
 ghost use Rattle.ses_io.specs.Faults.{HasCause};
 ghost use Rattle.session_model.specs.Frames.{interleaved, IsSample};
@@ -122,6 +122,17 @@ impl Sources {
         let room = 12_288 * usize::from(widest(&entries));
         let buffer = vec![in alloc; 0; room]?;
         Ok(Sources { entries, buffer })
+    }
+
+    /// The channels of a source, None where there is no such source.
+    pub fn channels(&self, source: u32) -> Option<u16>
+        ensures { SomeIff result (source < length self.now)
+            (slice_index (channels_of self.now) source) }
+    {
+        if source as usize >= self.entries.len() {
+            return None;
+        }
+        Some(self.entries[source as usize].info.channels)
     }
 
     /// Fills `out`, which holds whole frames, with the frames of a source from frame `from` on, and with 0 past its end.
