@@ -1,17 +1,16 @@
 -- The frames of opened sources are the sound of their files.
-use Rattle.std.proofs.Common.{◌≡◌, ℕ, zero, suc, ◌+◌, ◌*◌, ◌/◌, ◌≤◌, ◌<◌, ◌⊎◌, inl, inr, Bool, true, false, ◌&&◌, not, cond, nat_lt, nat_le, eqb, refl, ap, arith, ◌∙◌, sym, List, [], ◌∷◌, length, map, drop, get_or, Option, Some, None}
-use Rattle.std.specs.Prelude.{slice_get, Result, Ok, Err, ℤ, pos}
+use Rattle.std.proofs.Common.{◌≡◌, ℕ, ◌+◌, ◌*◌, ◌/◌, ◌≤◌, ◌<◌, ◌⊎◌, inl, inr, Bool, true, false, ◌&&◌, not, cond, nat_lt, nat_le, eqb, refl, ap, arith, ◌∙◌, sym, List, [], length, map, drop, get_or, Option, Some, None}
+use Rattle.std.specs.Prelude.{slice_get, Result, Ok, Err, pos}
 use Rattle.std.specs.List.{range_with_len}
 use Rattle.std.proofs.lemmas.Bool.{cases_lt}
 use Rattle.std.proofs.lemmas.Bool.Decides.{nat_tests}
 use Rattle.std.proofs.lemmas.List.FromFn.{get_or-map-range_with_len, length-map-range_with_len}
 use Rattle.std.proofs.lemmas.List.{get_or_past, get_or-map, length-map}
-use Rattle.std.proofs.lemmas.Option.{slice_get_within, slice_get_cases, slice_get_past, get_or_from_slice_get}
-use Rattle.sound_laws.proofs.Cases.{by_test}
+use Rattle.std.proofs.lemmas.Option.{slice_get_within, slice_get_cases}
 use Rattle.sound_model.specs.Numbers.{sample_at}
 use Rattle.sound_model.specs.Wav.{Head, Refusal, align, head, file_sound, sound}
 use Rattle.ses_io.specs.Files.{Files, content}
-use Rattle.session_model.specs.Frames.{Told, sample_of}
+use Rattle.session_model.specs.Frames.{sample_of}
 use Rattle.audio_source.specs.Refusals.{NoFile, NotRead, OtherRate, OtherChannels, fitting, fitting_read, source_head}
 use Rattle.audio_source.specs.Opened.{Opened}
 use Rattle.audio_source.specs.Told.{sample_by, told_by}

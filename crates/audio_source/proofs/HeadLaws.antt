@@ -1,5 +1,5 @@
 -- The piece that a scan wants, as it was read.
-use Rattle.std.proofs.Common.{◌≡◌, ℕ, ◌+◌, ◌-◌, ◌≤◌, ◌<◌, ◌⊎◌, inl, inr, refl, ap, arith, ◌∙◌, sym, min, List, length, take, drop, ◌++◌, Option, Some, None, true}
+use Rattle.std.proofs.Common.{◌≡◌, ℕ, ◌-◌, ◌≤◌, ◌<◌, ◌⊎◌, inl, inr, refl, ap, arith, ◌∙◌, sym, min, List, length, take, drop, ◌++◌, Option, Some, None, true}
 use Rattle.std.specs.Prelude.{◌≢◌, is_some, Err}
 use Rattle.std.proofs.lemmas.Bool.{cases_lt}
 use Rattle.std.proofs.lemmas.List.{take_all, length-drop, take-append-le}

@@ -1,5 +1,6 @@
 -- The proofs of the laws and what the reading rests on.
 pub mod FrameLaws
+pub mod ByteLaws
 pub mod SpanLaws
 pub mod PairLaws
 pub mod HeadLaws

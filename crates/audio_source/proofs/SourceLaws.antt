@@ -1,9 +1,9 @@
 -- A source among the others.
-use Rattle.std.proofs.Common.{◌≡◌, ℕ, ◌+◌, ◌/◌, ◌%◌, ◌<◌, refl, ap, arith, ◌∙◌, sym, List, length, map, get_or, Option, Some}
+use Rattle.std.proofs.Common.{◌≡◌, ℕ, ◌+◌, ◌/◌, ◌%◌, ◌<◌, ap, arith, ◌∙◌, sym, List, length, map, get_or, Some}
 use Rattle.std.specs.Prelude.{slice_get, slice_index, ℤ, pos}
 use Rattle.std.proofs.lemmas.List.{get_or-map, length-map}
 use Rattle.std.proofs.lemmas.List.FromFn.{fill_by_all}
-use Rattle.std.proofs.lemmas.Option.{slice_get_read, slice_get-get_or}
+use Rattle.std.proofs.lemmas.Option.{slice_get-get_or}
 use Rattle.sound_model.specs.Wav.{sound}
 use Rattle.ses_io.specs.Files.{Files, content}
 use Rattle.wav_codec.specs.Info.{head_of}
@@ -36,7 +36,7 @@ entry_there entries opened s e is =
     ap (λ l. slice_get l s) (sym is.view) ∙ slice_get-get_or (map opened_of entries) s (opened_of e) (omega (arith, length-map entries opened_of))
     ∙ ap Some (get_or-map opened_of entries s e (opened_of e) here ∙ ap opened_of (sym is.read))
 
-pub entry_sound : (files : Files) (entries : List Entry) (opened : List Opened) (s from n : ℕ) (e : Entry) → IsEntryAt entries opened s e →
+entry_sound : (files : Files) (entries : List Entry) (opened : List Opened) (s from n : ℕ) (e : Entry) → IsEntryAt entries opened s e →
     interleaved (sound (head_of e.info) (content files e.file)) e.info.channels from n ≡ interleaved (source_sound files opened s) (slice_index (channels_of opened) s) from n
 entry_sound files entries opened s from n e is =
     ap (λ o. interleaved (sample_by files o) e.info.channels from n) (sym (entry_there entries opened s e is))
@@ -46,6 +46,18 @@ same_frames : (f h : ℕ → ℕ → ℤ) (channels from n : ℕ) → ((i c : �
 same_frames f h channels from n same = fill_by_all (λ k. h (from + k / channels) (k % channels)) (interleaved f channels from n) n (pos 0) (length-interleaved f channels from n)
     (λ k below. interleaved-at f channels from n k below ∙ same (from + k / channels) (k % channels))
 
-pub listed_frames : (files : Files) (opened : List Opened) (s channels from n : ℕ) →
+listed_frames : (files : Files) (opened : List Opened) (s channels from n : ℕ) →
     interleaved (source_sound files opened s) channels from n ≡ interleaved (sounds_of (all_told files opened) s) channels from n
 listed_frames files opened s channels from n = same_frames (source_sound files opened s) (sounds_of (all_told files opened) s) channels from n (λ i c. sym (lists_hold_the_frames files opened s i c))
+
+-- what was read for the entry is the source's
+pub entry_told : (files : Files) (entries : List Entry) (opened : List Opened) (s from n : ℕ) (e : Entry) (out : List ℤ) → IsEntryAt entries opened s e → length out ≡ n →
+    out ≡ interleaved (sound (head_of e.info) (content files e.file)) e.info.channels from n →
+    out ≡ interleaved (source_sound files opened s) (slice_index (channels_of opened) s) from (length out)
+entry_told files entries opened s from n e out is long told =
+    told ∙ entry_sound files entries opened s from n e is ∙ ap (λ m. interleaved (source_sound files opened s) (slice_index (channels_of opened) s) from m) (sym long)
+
+-- and what the lists of frames hold
+pub list_told : (files : Files) (opened : List Opened) (s channels from n : ℕ) (out : List ℤ) → out ≡ interleaved (source_sound files opened s) channels from n →
+    out ≡ interleaved (sounds_of (all_told files opened) s) channels from n
+list_told files opened s channels from n out told = told ∙ listed_frames files opened s channels from n

@@ -1,7 +1,6 @@
 -- Frames of a source, span by span.
-use Rattle.std.proofs.Common.{◌≡◌, ℕ, zero, suc, ◌+◌, ◌-◌, ◌*◌, ◌/◌, ◌%◌, ◌^◌, min, ◌≤◌, ◌<◌, ◌⊎◌, inl, inr, refl, ap, arith, ◌∙◌, sym, subst, List, ◌++◌, length, map, take, drop, get_or, length-append}
+use Rattle.std.proofs.Common.{◌≡◌, ℕ, ◌+◌, ◌-◌, ◌*◌, ◌/◌, ◌%◌, ◌^◌, min, ◌≤◌, ◌<◌, ◌⊎◌, inl, inr, ap, arith, ◌∙◌, sym, subst, List, ◌++◌, length, take, drop, get_or, length-append}
 use Rattle.std.specs.Prelude.{ℤ, pos, All}
-use Rattle.std.specs.List.{range_with_len}
 use Rattle.std.proofs.Math.Nat.{mul-mod_left, mul-le-mul_left, mod-lt}
 use Rattle.std.proofs.lemmas.Nat.{div-add-mod', div-mul-add}
 use Rattle.std.proofs.lemmas.Bool.{cases_lt}
@@ -15,7 +14,7 @@ use Rattle.wav_codec.specs.Info.{IsFound}
 use Rattle.wav_codec.specs.declared.info.WavInfo.{WavInfo}
 use Rattle.session_model.specs.Frames.{interleaved, IsSample}
 use Rattle.audio_source.proofs.FrameLaws.{sound_past}
-use Rattle.audio_source.proofs.SpanLaws.{depth_width, least_size}
+use Rattle.audio_source.proofs.ByteLaws.{depth_width, least_size}
 
 pub interleaved-at : (f : ℕ → ℕ → ℤ) (channels from n k : ℕ) → k < n → get_or (interleaved f channels from n) k (pos 0) ≡ f (from + k / channels) (k % channels)
 interleaved-at f channels from n k h = get_or-map-range_with_len (λ i. f (from + i / channels) (i % channels)) 0 n k k (pos 0) h (omega arith)

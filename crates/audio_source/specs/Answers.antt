@@ -1,6 +1,6 @@
 -- What each answer says, and what ties a fault to the media's count of failed reads.
 use Rattle.std.specs.Prelude.{◌≡◌, ℕ, ◌<◌, ◌≤◌, List, slice_get, Some, IsSomeAnd, IsOk, Result, Ok, Err}
-use Rattle.sound_model.specs.Wav.{Head, Refusal, head}
+use Rattle.sound_model.specs.Wav.{Head, Refusal}
 use Rattle.ses_io.specs.Faults.{risen}
 use Rattle.ses_io.specs.Files.{Files}
 use Rattle.wav_codec.specs.Info.{head_of}

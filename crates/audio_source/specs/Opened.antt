@@ -1,5 +1,5 @@
 -- What contracts see of opened sources, and what their files were.
-use Rattle.std.specs.Prelude.{◌≡◌, ℕ, ◌*◌, ◌<◌, ◌≤◌, List, length, map, slice_get, Some, Ok}
+use Rattle.std.specs.Prelude.{◌≡◌, ℕ, ◌*◌, ◌≤◌, List, length, map, slice_get, Some, Ok}
 use Rattle.sound_model.specs.Wav.{Head}
 use Rattle.ses_io.specs.Files.{Files}
 use Rattle.wav_codec.specs.Info.{head_of, IsFound}

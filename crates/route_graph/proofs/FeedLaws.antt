@@ -15,7 +15,8 @@ use Rattle.route_graph.specs.Places.{AreOnce, StartsWith}
 use Rattle.route_graph.specs.Walks.{plain, LinksBelow, ways, waiting}
 use Rattle.route_graph.proofs.GraphLaws.{at-map, length-map, count-send}
 use Rattle.route_graph.proofs.PlaceLaws.{false_is_true}
-use Rattle.route_graph.proofs.WalkLaws.{one_more_done, take_get, take_starts, fresh_at, few_ways, waiting_more}
+use Rattle.route_graph.proofs.WaitLaws.{one_more_done, few_ways, waiting_more}
+use Rattle.route_graph.proofs.WalkLaws.{take_get, take_starts, fresh_at}
 
 abbrev tally : Bool → ℕ
 tally b = if b then 1 else 0

@@ -11,7 +11,8 @@ use Rattle.route_graph.specs.Places.{stands, StartsWith}
 use Rattle.route_graph.specs.Walks.{plain, ways, waiting, IsSettled, IsPeeled}
 use Rattle.route_graph.proofs.GraphLaws.{as_many}
 use Rattle.route_graph.proofs.PlaceLaws.{false_is_true}
-use Rattle.route_graph.proofs.WalkLaws.{all_done, stands_at, longer, no_more, peeled_whole, fed_more}
+use Rattle.route_graph.proofs.WaitLaws.{all_done}
+use Rattle.route_graph.proofs.WalkLaws.{stands_at, longer, no_more, peeled_whole, fed_more}
 use Rattle.route_graph.proofs.FeedLaws.{turn_waits, waits_more}
 
 -- The links of the routes of the first turns are taken away, and all to which no link is left are placed.

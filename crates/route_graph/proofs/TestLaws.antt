@@ -1,13 +1,11 @@
 -- What the tests of a formed session rest on.
-use Rattle.std.proofs.Common.{◌≡◌, ℕ, zero, suc, ◌≤◌, Bool, true, false, not, ◌&&◌, refl, ap, arith, ◌∙◌, sym, subst, List, [], ◌∷◌, length, map, take, drop, ◌-◌, get_or}
+use Rattle.std.proofs.Common.{◌≡◌, ℕ, ◌≤◌, Bool, true, not, ◌&&◌, refl, ap, arith, ◌∙◌, sym, List, [], ◌∷◌, length, map, take, drop, ◌-◌, get_or}
 use Rattle.std.specs.Prelude.{IsTrue}
 use Rattle.std.specs.List.{list_all}
 use Rattle.std.specs.Str.{bytes_eq}
 use Rattle.std.proofs.lemmas.List.{take_all}
 use Rattle.std.proofs.lemmas.List.Folds.{list_all-map}
 use Rattle.session_model.specs.declared.route.Route.{Route}
-use Rattle.session_model.specs.declared.track.Track.{Track}
-use Rattle.session_model.specs.declared.session.SourceDecl.{SourceDecl}
 use Rattle.session_model.specs.declared.session.Session.{Session}
 use Rattle.session_model.specs.Lists.{are_apart, each_from}
 use Rattle.session_model.specs.Tests.{has_limits, has_names, is_formed_source, is_formed_route, is_formed_track, is_formed}

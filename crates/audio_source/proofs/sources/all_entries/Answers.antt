@@ -1,5 +1,4 @@
-use Rattle.std.proofs.Common.{◌≡◌, ◌∙◌, ap, length, arith, subst, rules}
-use Rattle.std.specs.Prelude.{slice_get, Some}
+use Rattle.std.proofs.Common.{◌∙◌, ap, length, arith, subst, rules}
 use Rattle.ses_io.specs.Files.{Files}
 use Rattle.wav_codec.specs.Info.{IsFound}
 use Rattle.audio_source.specs.Answers.{IsRefusalOf}

@@ -1,5 +1,5 @@
-use Rattle.std.proofs.Common.{◌≡◌, map, take, length}
-use Rattle.std.specs.Prelude.{All, vec_len}
+use Rattle.std.proofs.Common.{◌≡◌, map, take}
+use Rattle.std.specs.Prelude.{All}
 use Rattle.wav_codec.specs.Info.{IsFound}
 use Rattle.audio_source.specs.Opened.{opened_of, IsListed, IsOpened}
 use Rattle.audio_source.proofs.sources.all_entries.Given as goal

@@ -1,6 +1,6 @@
-use Rattle.std.proofs.Common.{◌∙◌, ap, arith, replicate, length}
+use Rattle.std.proofs.Common.{◌∙◌, ap, arith, replicate}
 use Rattle.std.specs.Prelude.{pos}
-use Rattle.audio_source.proofs.SpanLaws as laws
+use Rattle.audio_source.proofs.ByteLaws as laws
 use Rattle.audio_source.proofs.span.silence.Goals as goal
 
 pub returns : goal.returns

@@ -1,4 +1,4 @@
-use Rattle.std.proofs.Common.{◌≡◌, ◌^◌, ◌-◌, ◌%◌, ◌∙◌, arith, length, min, take, drop, subst, List, ℕ, ap}
+use Rattle.std.proofs.Common.{◌≡◌, ◌^◌, ◌-◌, ◌%◌, ◌∙◌, arith, length, min, take, drop, subst, ap}
 use Rattle.ses_io.specs.Files.{Files, content}
 use Rattle.sound_model.specs.Wav.{sound}
 use Rattle.wav_codec.specs.Info.{head_of}

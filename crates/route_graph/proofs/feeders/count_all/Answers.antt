@@ -1,6 +1,6 @@
 use Rattle.std.proofs.Common.{◌∙◌, sym, arith, length, []}
 use Rattle.route_graph.proofs.GraphLaws.{item_at, links_low, below_more}
-use Rattle.route_graph.proofs.WalkLaws.{waiting-none}
+use Rattle.route_graph.proofs.WaitLaws.{waiting-none}
 use Rattle.route_graph.proofs.FeedLaws as laws
 use Rattle.route_graph.proofs.feeders.count_all.Goals as goal
 

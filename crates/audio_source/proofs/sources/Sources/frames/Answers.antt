@@ -1,8 +1,4 @@
-use Rattle.std.proofs.Common.{◌≡◌, ◌%◌, ◌∙◌, sym, ap, length}
-use Rattle.session_model.specs.Frames.{interleaved}
-use Rattle.audio_source.specs.Told.{source_sound}
-use Rattle.audio_source.specs.Opened.{channels_of}
-use Rattle.std.specs.Prelude.{slice_index}
+use Rattle.std.proofs.Common.{◌%◌, ◌∙◌, sym, ap, length}
 use Rattle.audio_source.proofs.SourceLaws as laws
 use Rattle.audio_source.proofs.SourceLaws.{IsEntryAt}
 use Rattle.audio_source.proofs.sources.Sources.frames.Goals as goal
@@ -14,9 +10,6 @@ read_frames-requires-clause-whole g c =
     ap (λ n. length c.args.out.now % n) (sym (laws.entry_channels c.self.inside.entries.items c.args.self.now c.args.source c.index-entry.result.now is)) ∙ c.requires.whole
 
 pub returns-clause-told : goal.returns-clause-told
-returns-clause-told g c = λ t. let e = c.index-entry.result.now in
-    let is : IsEntryAt c.self.inside.entries.items c.args.self.now c.args.source e =
-    record { view = c.self.view_is; inside = c.requires.source; read = c.index-entry.ensures } in
-    c.in_ok-read_frames.ensures.told t
-    ∙ laws.entry_sound (g.M.Media.files c.args.media.now) c.self.inside.entries.items c.args.self.now c.args.source c.args.from (length c.args.out.now) e is
-    ∙ ap (λ n. interleaved (source_sound (g.M.Media.files c.args.media.now) c.args.self.now c.args.source) (slice_index (channels_of c.args.self.now) c.args.source) c.args.from n) (sym c.read_frames.auto.out)
+returns-clause-told g c = λ t. laws.entry_told (g.M.Media.files c.args.media.now) c.self.inside.entries.items c.args.self.now c.args.source c.args.from (length c.args.out.now)
+    c.index-entry.result.now c.read_frames.new.out (record { view = c.self.view_is; inside = c.requires.source; read = c.index-entry.ensures })
+    c.read_frames.auto.out (c.in_ok-read_frames.ensures.told t)
