@@ -19,8 +19,9 @@ use Rattle.session_walk.specs.declared.fault.SessionFault.{SessionFault}
 use Rattle.session_walk.specs.Fault.{Gives}
 use Rattle.session_walk.specs.Text.{written}
 use Rattle.session_walk.proofs.RangeLaws.{after, written_is_in_range}
+use Rattle.session_walk.proofs.SaysLaws.{written_is_said}
 use Rattle.session_toml.specs.Session.{rules_of, built, laid_out, on_cycle, refuse_cycle, without_cycle, session}
-use Rattle.session_toml.specs.Laws.{AcceptedIsValid}
+use Rattle.session_toml.specs.Laws.{AcceptedIsValid, AcceptedIsSaid}
 use Rattle.session_toml.proofs.FormLaws.{is-formed}
 
 pub laid-out-formed : (bytes : List ℕ) (s : Session) → laid_out bytes ≡ Ok s → IsFormed s
@@ -78,3 +79,11 @@ session-is bytes s e = rw e refl
 pub given-valid : (bytes : List ℕ) (s : Session) (result : Result Session SessionFault) → laid_out bytes ≡ Ok s → Gives (without_cycle s) result → IfOk result IsValid
 given-valid bytes s (Ok t) e given = accepted_is_valid bytes t (session-is bytes s e ∙ given)
 given-valid bytes s (Err fault) e given = tt
+
+pub accepted_is_said : AcceptedIsSaid
+unfolding session laid_out
+accepted_is_said bytes s e = after (laid_out bytes) _ s e (λ t te last. after (written bytes) _ t te (λ w we kept. after (rules_of w) _ t kept (λ u ue made.
+    let (none, same) = passed t s (on_cycle t) last in
+    let (m, doc, said) = written_is_said bytes w we in
+    let is : built w ≡ t = cc in
+    (m, w, doc, said, sym same ∙ sym is))))

@@ -1,3 +1,4 @@
 pub mod TableLaws
 pub mod EachLaws
 pub mod RangeLaws
+pub mod SaysLaws

@@ -35,7 +35,7 @@ pub kept : (b : Bool) (x : SessionRefusal) (u : Unit {0}) → holds b x ≡ Ok u
 kept true x u e = refl
 kept false x u e = cc
 
-some-in : {A : Type 0} (o : Option A) (x : SessionRefusal) (a : A) → ok_or o x ≡ Ok a → o ≡ Some a
+pub some-in : {A : Type 0} (o : Option A) (x : SessionRefusal) (a : A) → ok_or o x ≡ Ok a → o ≡ Some a
 some-in (Some b) x a e = cc
 some-in None x a e = cc
 

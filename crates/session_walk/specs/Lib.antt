@@ -9,4 +9,5 @@ pub mod Parts
 pub mod Text
 pub mod TextViews
 pub mod InRange
+pub mod Says
 pub mod Laws

@@ -14,7 +14,7 @@ mod values;
 mod words;
 
 pub use fault::SessionFault;
-pub use laws::written_is_in_range;
+pub use laws::{written_is_in_range, written_is_said};
 pub use said::{
     Fades, Head, Level, MasterText, Named, RegionText, Ride, RouteText, SendText, Span, Strip,
     Taking, TrackOwn, TrackText, Written,
