@@ -114,10 +114,16 @@ fn refusal_told(alloc: Global, refusal: SessionRefusal) -> Result<String, Fail> 
     }
 }
 
+// Whether the bytes are read; the session is let go.
+fn judge(alloc: Global, bytes: &[u8]) -> Result<(), SessionFault> {
+    let _session = session_of(alloc, bytes)?;
+    Ok(())
+}
+
 /// What is answered for the bytes: `ok`, or the refusal in words.
 pub(crate) fn told(alloc: Global, bytes: &[u8]) -> Result<String, Fail> {
-    match session_of(alloc, bytes) {
-        Ok(_) => Ok(String::from_str(alloc, "ok")?),
+    match judge(alloc, bytes) {
+        Ok(()) => Ok(String::from_str(alloc, "ok")?),
         Err(SessionFault::Refused(refusal)) => refusal_told(alloc, refusal),
         Err(SessionFault::NoMemory) => Ok(String::from_str(alloc, "no-memory")?),
     }
