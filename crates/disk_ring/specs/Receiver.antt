@@ -1,5 +1,5 @@
 -- What a clause sees of the end of a ring that takes, and what its calls do.
-use Rattle.std.specs.Prelude.{◌≡◌, ℕ, ◌<◌, ◌≤◌, Bool, true, false, List, ◌∷◌, [], ◌++◌, length}
+use Rattle.std.specs.Prelude.{◌≡◌, ℕ, ◌^◌, ◌<◌, ◌≤◌, Bool, true, false, List, ◌∷◌, [], ◌++◌, length}
 use mathlib.Core.List.{IsPrefix}
 use Rattle.atomic_table.specs.Seated.{TableId}
 use Rattle.atomic_table.specs.declared.shared.Seat.{Seat}
@@ -67,6 +67,8 @@ module _ {T : Type 0} where
     pub over : a.over ≡ true → length a.received < length a.heard
     -- it hadn't been answered Closed
     pub not_ended : a.ended ≡ false
+    -- a ring takes no more items than this
+    pub small : length a.received < 2 ^ 62
 
   -- there was no item, and the ring wasn't closed, by this tail
   pub record FoundEmpty (a : Receiver T) (tail : ℕ) (b : Receiver T) : Type 0 where

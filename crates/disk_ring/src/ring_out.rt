@@ -1,5 +1,5 @@
 //! The end of a ring that takes. No call of it takes memory, locks or waits.
-ghost use Rattle.std.specs.Prelude.{◌≡◌, ◌/◌, true, false, MatchResult};
+ghost use Rattle.std.specs.Prelude.{◌≡◌, ◌/◌, ◌^◌, ◌≤◌, true, false, length, MatchResult};
 ghost use Rattle.disk_ring.specs.Receiver.{GoesOnOut, Takes};
 ghost use Rattle.disk_ring.specs.Answers.{FoundNothing};
 ghost use Rattle.disk_ring.specs.Steps.{close_bit};
@@ -47,6 +47,14 @@ fn nothing<T>(word: u64, husk: Box<T>) -> Nothing<T>
 }
 
 impl<T: Roomy> RingOut<T> {
+    /// How many items it has received.
+    pub fn received(&self) -> u64
+        ensures received { result ≡ length self.now.received }
+        ensures small { result ≤ 2 ^ 62 }
+    {
+        self.count
+    }
+
     /// Takes the next item, and keeps the husk. Empty exactly where the tail loaded in this call is
     /// the number received and the close bit wasn't set in it, Closed exactly where it was.
     pub fn take(&mut self, husk: Box<T>) -> Result<Box<T>, Nothing<T>>

@@ -12,4 +12,12 @@ pub mod DueLemmas
 pub mod EditionLemmas
 pub mod LawfulLemmas
 pub mod PlainLemmas
+pub mod PlayedLemmas
+pub mod PlainSessionLemmas
+pub mod MixedLemmas
+pub mod StandingLemmas
+pub mod EntryLemmas
+pub mod TruthLemmas
+pub mod SerialLemmas
+pub mod MasterLemmas
 pub mod Laws

@@ -33,7 +33,7 @@ play_fits : (rolls : Bool) (n p : ℕ) → fits_play rolls n (if rolls then Hear
 play_fits true n p = refl
 play_fits false n p = refl
 
-range_step : (t n : ℕ) → range_with_len t (suc n) ≡ t ∷ range_with_len (suc t) n
+pub range_step : (t n : ℕ) → range_with_len t (suc n) ≡ t ∷ range_with_len (suc t) n
 range_step t n = ap (λ u. t ∷ range_with_len u n) {x = t + 1} {y = suc t} (omega arith)
 
 notes_fit : (session : Session) (edits : List Edit) (now : Edition) (n : ℕ) (before : List Entry) (t tracks : ℕ) →

@@ -71,11 +71,11 @@ the : Option Kind → Kind
 the None = Blank
 the (Some x) = x
 
-it_is : (x y : Kind) → Some x ≡ Some y → x ≡ y
+pub it_is : (x y : Kind) → Some x ≡ Some y → x ≡ y
 unfolding the
 it_is x y h = ap the h
 
-it_is_if : (c : Bool) (x y : Kind) → (if c then Some x else None) ≡ Some y → x ≡ y
+pub it_is_if : (c : Bool) (x y : Kind) → (if c then Some x else None) ≡ Some y → x ≡ y
 it_is_if true x y h = it_is x y h
 it_is_if false x y h = grind (arith, h)
 

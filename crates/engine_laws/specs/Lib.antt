@@ -8,3 +8,7 @@ pub mod OrderLaws
 pub mod HeardLaws
 pub mod NumbersLaws
 pub mod JournalLaws
+pub mod PlayedLaws
+pub mod Standing
+pub mod TruthLaws
+pub mod SerialLaws

@@ -7,6 +7,10 @@ mod heard;
 mod journals;
 mod numbers;
 mod order;
+mod played;
+mod serial;
+mod standing;
+mod truth;
 
 pub use editions::{
     editions_play_their_generation, editions_stay, loops_are_kept, none_falls, places_stay,
@@ -25,4 +29,16 @@ pub use numbers::{
 pub use order::{
     each_follows, entering_keeps, marks_bind, newest_never_falls_along, one_more_is_ordered,
     received_is_ordered, seeing_more_keeps, sending_keeps,
+};
+pub use played::{
+    genuine_pieces_make_the_block, genuine_stays, master_file_is_its_blocks, plain_master_sums,
+    playlists_stand_since_their_edit,
+};
+pub use serial::{
+    due_is_not_held, few_are_sent, none_is_held_later, nothing_due_is_ready, ready_entry_is_plain,
+};
+pub use standing::{stands_while_editing, stands_while_receiving, stands_with_its_entry};
+pub use truth::{
+    truth_stands_of_the_ring, truth_stands_while_editing, truth_stands_while_receiving,
+    truth_stands_with_its_entry,
 };

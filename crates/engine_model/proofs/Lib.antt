@@ -5,3 +5,5 @@ mod SendVectors
 mod JournalVectors
 mod TruthVectors
 mod SoundVectors
+mod PlainSessionVectors
+mod MixedVectors

@@ -9,5 +9,7 @@ pub mod Journal
 pub mod Fits
 pub mod Cycle
 pub mod Played
+pub mod Mixed
 pub mod Truth
 pub mod Plain
+pub mod PlainSession

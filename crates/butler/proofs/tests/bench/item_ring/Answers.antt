@@ -1,0 +1,14 @@
+use Rattle.std.proofs.Common.{◌∙◌, ap}
+use Rattle.disk_ring.specs.Receiver.{Receiver}
+use Rattle.piece_item.specs.declared.item.Item.{Item}
+use Rattle.butler.proofs.BenchLemmas.{puts_anew}
+use Rattle.butler.proofs.tests.bench.item_ring.Goals as goal
+
+pub ring-requires-clause-room : goal.ring-requires-clause-room
+ring-requires-clause-room c = (c.args.block, c.in_ok-blanks.ensures.room)
+
+pub returns-clause-to : goal.returns-clause-to
+returns-clause-to c = puts_anew c.args.depth c.args.block c.in_ok-to.to c.in_ok-to.from c.in_ok-to.ensures.ends (c.in_ok-to.ensures.room c.args.block c.in_ok-blanks.ensures.room)
+
+pub returns-clause-from : goal.returns-clause-from
+returns-clause-from c = ap (λ (r : Receiver Item). r.room) c.in_ok-to.ensures.ends.receiver ∙ c.in_ok-to.ensures.room c.args.block c.in_ok-blanks.ensures.room

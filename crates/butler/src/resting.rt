@@ -1,0 +1,99 @@
+//! A butler gives its ends out and takes them back, or gives all back.
+ghost use Rattle.std.specs.Prelude.{◌≡◌};
+ghost use Rattle.butler.specs.Seen.{rested, resumed};
+ghost use Rattle.butler.specs.Serving.{AreStocked};
+
+use crate::butler::Butler;
+use crate::supply::{Shelf, Supply};
+use piece_item::{Ack, ButlerEnds};
+use std::marker::Model;
+
+/// What a butler gives back.
+#[derive(Drop)]
+pub struct ButlerParts<M> {
+    /// The media that it read from.
+    pub media: M,
+    /// Its ends of the rings.
+    pub ends: ButlerEnds,
+}
+
+/// A butler whose ends are elsewhere.
+#[derive(Drop)]
+pub struct Resting<M> {
+    shelf: Shelf<M>,
+    cycles: u32,
+    supplies: Vec<Supply>,
+    nexts: Vec<u32>,
+    husk: Option<Box<Ack>>,
+    // Whether the ring of acknowledgements has answered Closed.
+    ended: bool,
+    failed: bool,
+}
+
+impl<M> Model for Resting<M> {
+    ghost use Rattle.std.specs.Prelude.{◌≡◌, length, IsSome};
+    ghost use Rattle.butler.specs.Seen.{Rested};
+
+    ghost Value = { Rested M };
+
+    ghost view = { λ r. record { media = r.shelf.media; sources = r.shelf.sources; cycles = r.cycles; supplies = r.supplies.items; nexts = r.nexts.items; ended = r.ended; failed = r.failed } };
+
+    ghost invariant = { λ r. (length r.nexts.items ≡ 10001) × IsSome r.husk };
+}
+
+impl<M> Butler<M> {
+    /// Whether the ring of acknowledgements has answered Closed.
+    pub fn over(&self) -> bool
+        ensures { result ≡ self.now.ends.acks.ended }
+    {
+        self.ended
+    }
+
+    /// Gives the media and the ends back as they stand.
+    pub fn parts(self) -> ButlerParts<M>
+        ensures media { result.media ≡ self.media }
+        ensures ends { result.ends ≡ self.ends }
+    {
+        let Butler { shelf, ends, .. } = self;
+        let Shelf { media, sources: _ } = shelf;
+        ButlerParts { media, ends }
+    }
+
+    /// Hands the ends out, and keeps the rest.
+    pub fn rest(self) -> (Resting<M>, ButlerEnds)
+        ensures rested { result.0 ≡ rested self }
+        ensures ends { result.1 ≡ self.ends }
+        ensures stocked { AreStocked result.0.supplies result.1.sends.items }
+    {
+        let resting = Resting {
+            shelf: self.shelf,
+            cycles: self.cycles,
+            supplies: self.supplies,
+            nexts: self.nexts,
+            husk: self.husk,
+            ended: self.ended,
+            failed: self.failed,
+        };
+        (resting, self.ends)
+    }
+}
+
+impl<M> Resting<M> {
+    /// The butler with these ends: as many playback rings as before, of the rooms that they had.
+    pub fn resume(self, ends: ButlerEnds) -> Butler<M>
+        requires stocked { AreStocked self.supplies ends.sends.items }
+        requires ended { ends.acks.ended ≡ self.ended }
+        ensures { result ≡ resumed self ends }
+    {
+        Butler {
+            shelf: self.shelf,
+            cycles: self.cycles,
+            ends,
+            supplies: self.supplies,
+            nexts: self.nexts,
+            husk: self.husk,
+            ended: self.ended,
+            failed: self.failed,
+        }
+    }
+}

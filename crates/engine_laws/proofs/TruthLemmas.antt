@@ -1,0 +1,360 @@
+-- A journal stays true of the rings: misses, looks and losses.
+use Rattle.std.proofs.Common.{◌≡◌, inl, inr, ℕ, zero, suc, ◌+◌, ◌-◌, ◌<◌, ◌≤◌, List, [], ◌∷◌, ◌++◌, length, take, map, refl, sym, ap, subst, arith, ◌∙◌, length-append}
+use Rattle.std.specs.Prelude.{◌⊎◌, Bool, true, false, ◌&&◌, ◌||◌, not, ◌==◌, nat_le, nat_lt, if◌then◌else◌, Option, Some, None, slice_get, reverse, replicate}
+use Rattle.std.specs.List.{list_all}
+use Rattle.std.specs.Option.{option_map_or}
+use Rattle.std.proofs.lemmas.Bool.{and_parts, and_from, le-leb, leb-true, eq-eqb, eqb-true, ltb-true, lt-ltb, true≢false}
+use Rattle.std.proofs.lemmas.List.{append_assoc, append-nil, length-replicate, length-reverse, reverse-append}
+use Rattle.std.proofs.lemmas.List.Folds.{list_all-append}
+use Rattle.std.proofs.Math.Bool.{or_assoc, or_comm}
+use Rattle.std.proofs.Math.Seq.{take-length}
+use Rattle.session_model.specs.declared.edit.Edit.{Edit}
+use Rattle.session_model.specs.declared.session.Session.{Session}
+use Rattle.engine_model.specs.Edits.{generation, starts}
+use Rattle.engine_model.specs.Editions.{edition}
+use Rattle.engine_model.specs.Items.{Kind, Piece, Settled, Blank, among, blocks, newest}
+use Rattle.engine_model.specs.Journal.{Heard, Short, Take, Off, State, Stopped, Seeking, Rolling, Entry, note_at, note_of, rolled}
+use Rattle.engine_model.specs.Cycle.{is_held, has_piece, waiting, first_state, state_of, notes_of, entry_of}
+use Rattle.engine_model.specs.Truth.{Miss, miss_of_play, miss_in, misses, item_at, was_held, looked, is_missing, is_within, losses_from, loss_of, taken_after, IsTruthful}
+use Rattle.engine_laws.specs.TruthLaws.{TruthStands, HasLooked}
+use Rattle.engine_laws.specs.Standing.{no_takes}
+use Rattle.engine_laws.proofs.NumberLemmas.{count_stays}
+use Rattle.engine_laws.proofs.MixedLemmas.{note_is}
+
+-- ---- more is received
+
+take_stays : (n : ℕ) (xs ys : List Kind) → n ≤ length xs → take n (xs ++ ys) ≡ take n xs
+take_stays zero xs ys le = refl
+take_stays (suc n) [] ys le = absurd (omega arith)
+take_stays (suc n) (x ∷ xs) ys le = ap (λ l. x ∷ l) (take_stays n xs ys (omega arith))
+
+item_stays : (n : ℕ) (xs ys : List Kind) → n < length xs → item_at n (xs ++ ys) ≡ item_at n xs
+item_stays n [] ys lt = absurd (omega arith)
+item_stays zero (x ∷ xs) ys lt = refl
+item_stays (suc n) (x ∷ xs) ys lt = item_stays n xs ys (omega arith)
+
+miss_stays : (xs ys : List Kind) (m : Miss) → nat_le m.tail (length xs) ≡ true → is_missing (xs ++ ys) m ≡ is_missing xs m
+miss_stays xs ys m le = ap (λ l. not (among m.block (blocks m.generation l))) (take_stays m.tail xs ys (leb-true m.tail (length xs) le))
+
+tail_stays : (n : ℕ) (xs ys : List Kind) → nat_le n (length xs) ≡ true → nat_le n (length (xs ++ ys)) ≡ true
+tail_stays n xs ys le = le-leb n (length (xs ++ ys)) (grind (arith, length-append xs ys, leb-true n (length xs) le))
+
+held_by : (depth : ℕ) (xs ys : List Kind) (m : Miss) (b : Bool) → nat_lt 0 m.tail ≡ b → nat_le m.tail (length xs) ≡ true → was_held depth (xs ++ ys) m ≡ was_held depth xs m
+held_by depth xs ys m false zero_is le = ap (λ b. b && nat_le m.tail (length (xs ++ ys)) && is_held depth m.generation m.block (item_at (m.tail - 1) (xs ++ ys))) zero_is
+    ∙ sym (ap (λ b. b && nat_le m.tail (length xs) && is_held depth m.generation m.block (item_at (m.tail - 1) xs)) zero_is)
+held_by depth xs ys m true some le = ap (λ b. nat_lt 0 m.tail && b && is_held depth m.generation m.block (item_at (m.tail - 1) (xs ++ ys))) (tail_stays m.tail xs ys le ∙ sym le)
+    ∙ ap (λ x. nat_lt 0 m.tail && nat_le m.tail (length xs) && is_held depth m.generation m.block x)
+    (item_stays (m.tail - 1) xs ys (grind (arith, leb-true m.tail (length xs) le, ltb-true 0 m.tail some)))
+
+all_missing : (xs ys : List Kind) (ms : List Miss) → list_all (λ m. nat_le m.tail (length xs)) ms ≡ true → list_all (is_missing xs) ms ≡ true → list_all (is_missing (xs ++ ys)) ms ≡ true
+all_missing xs ys [] le all = refl
+all_missing xs ys (m ∷ ms) le all = let low = and_parts (nat_le m.tail (length xs)) (list_all (λ k. nat_le k.tail (length xs)) ms) le in let here = and_parts (is_missing xs m) (list_all (is_missing xs) ms) all in
+    and_from (is_missing (xs ++ ys) m) (list_all (is_missing (xs ++ ys)) ms) (miss_stays xs ys m low.0 ∙ here.0) (all_missing xs ys ms low.1 here.1)
+
+all_within : (xs ys : List Kind) (ms : List Miss) → list_all (λ m. nat_le m.tail (length xs)) ms ≡ true → list_all (λ m. nat_le m.tail (length (xs ++ ys))) ms ≡ true
+all_within xs ys [] le = refl
+all_within xs ys (m ∷ ms) le = let low = and_parts (nat_le m.tail (length xs)) (list_all (λ k. nat_le k.tail (length xs)) ms) le in
+    and_from (nat_le m.tail (length (xs ++ ys))) (list_all (λ k. nat_le k.tail (length (xs ++ ys))) ms) (tail_stays m.tail xs ys low.0) (all_within xs ys ms low.1)
+
+looked_stays : (depth : ℕ) (xs ys : List Kind) (ms : List Miss) → list_all (λ m. nat_le m.tail (length xs)) ms ≡ true → looked depth (xs ++ ys) ms ≡ looked depth xs ms
+looked_stays depth xs ys [] le = refl
+looked_stays depth xs ys (m ∷ ms) le = let low = and_parts (nat_le m.tail (length xs)) (list_all (λ k. nat_le k.tail (length xs)) ms) le in
+    ap (λ b. if b then looked depth (xs ++ ys) ms else m.tail ∷ looked depth (xs ++ ys) ms) (held_by depth xs ys m (nat_lt 0 m.tail) refl low.0)
+    ∙ ap (λ l. if was_held depth xs m then l else m.tail ∷ l) (looked_stays depth xs ys ms low.1)
+
+-- ---- the first list is the second with some left out
+
+within_more : (xs ys zs : List ℕ) → is_within xs ys ≡ true → is_within xs (ys ++ zs) ≡ true
+within_more [] ys zs h = refl
+within_more (x ∷ xs) [] zs h = absurd (true≢false (sym h))
+within_more (x ∷ xs) (y ∷ ys) zs h = by (x == y) h (within_more xs ys zs) (within_more (x ∷ xs) ys zs)
+  where
+    by : (b : Bool) → (if b then is_within xs ys else is_within (x ∷ xs) ys) ≡ true → (is_within xs ys ≡ true → is_within xs (ys ++ zs) ≡ true) → (is_within (x ∷ xs) ys ≡ true → is_within (x ∷ xs) (ys ++ zs) ≡ true) →
+        (if b then is_within xs (ys ++ zs) else is_within (x ∷ xs) (ys ++ zs)) ≡ true
+    by true e f g = f e
+    by false e f g = g e
+
+within_one : (n : ℕ) (zs : List ℕ) → is_within (n ∷ []) (zs ++ n ∷ []) ≡ true
+within_one n [] = ap (λ b. if b then true else false) (eq-eqb n n refl)
+within_one n (z ∷ zs) = by (n == z) (within_one n zs)
+  where
+    by : (b : Bool) → is_within (n ∷ []) (zs ++ n ∷ []) ≡ true → (if b then true else is_within (n ∷ []) (zs ++ n ∷ [])) ≡ true
+    by true e = refl
+    by false e = e
+
+within_both : (xs ys zs : List ℕ) (n : ℕ) → is_within xs ys ≡ true → is_within (xs ++ n ∷ []) (ys ++ zs ++ n ∷ []) ≡ true
+within_both [] [] zs n h = within_one n zs
+within_both [] (y ∷ ys) zs n h = by (n == y) (within_both [] ys zs n refl)
+  where
+    by : (b : Bool) → is_within (n ∷ []) (ys ++ zs ++ n ∷ []) ≡ true → (if b then is_within [] (ys ++ zs ++ n ∷ []) else is_within (n ∷ []) (ys ++ zs ++ n ∷ [])) ≡ true
+    by true e = refl
+    by false e = e
+within_both (x ∷ xs) [] zs n h = absurd (true≢false (sym h))
+within_both (x ∷ xs) (y ∷ ys) zs n h = by (x == y) h (within_both xs ys zs n) (within_both (x ∷ xs) ys zs n)
+  where
+    by : (b : Bool) → (if b then is_within xs ys else is_within (x ∷ xs) ys) ≡ true → (is_within xs ys ≡ true → is_within (xs ++ n ∷ []) (ys ++ zs ++ n ∷ []) ≡ true) →
+        (is_within (x ∷ xs) ys ≡ true → is_within (x ∷ xs ++ n ∷ []) (ys ++ zs ++ n ∷ []) ≡ true) →
+        (if b then is_within (xs ++ n ∷ []) (ys ++ zs ++ n ∷ []) else is_within (x ∷ xs ++ n ∷ []) (ys ++ zs ++ n ∷ [])) ≡ true
+    by true e f g = f e
+    by false e f g = g e
+
+pub truth_stands_while_receiving : (edits : List Edit) (depth t : ℕ) (received more : List Kind) (tails further : List ℕ) (journal : List Entry) →
+    TruthStands edits depth t received tails journal → TruthStands edits depth t (received ++ more) (tails ++ further) journal
+truth_stands_while_receiving edits depth t received more tails further journal old = record {
+  missing = all_missing received more (misses edits t journal) old.within old.missing;
+  looked_for = ap (λ l. is_within l (tails ++ further)) (looked_stays depth received more (misses edits t journal) old.within)
+      ∙ within_more (looked depth received (misses edits t journal)) tails further old.looked_for;
+  within = all_within received more (misses edits t journal) old.within;
+  none_lost = old.none_lost;
+}
+
+-- ---- more edits come
+
+same_state : (edits extra : List Edit) (t : ℕ) (e : Entry) (state : State) → generation (edits ++ extra) e.edition ≡ generation edits e.edition → miss_in (edits ++ extra) t e state ≡ miss_in edits t e state
+same_state edits extra t e Stopped is = refl
+same_state edits extra t e (Seeking u tail) is = ap (λ g. if u == t then record { generation = g; block = 0; tail = tail } ∷ [] else []) is
+same_state edits extra t e (Rolling g s) is = refl
+
+misses_stay : (edits extra : List Edit) (t : ℕ) (journal : List Entry) → list_all (λ e. nat_le e.edition (length edits)) journal ≡ true → misses (edits ++ extra) t journal ≡ misses edits t journal
+misses_stay edits extra t [] all = refl
+misses_stay edits extra t (e ∷ es) all = let low = and_parts (nat_le e.edition (length edits)) (list_all (λ k. nat_le k.edition (length edits)) es) all in
+    ap (λ l. l ++ misses (edits ++ extra) t es) (same_state edits extra t e e.state (count_stays starts edits extra e.edition (leb-true e.edition (length edits) low.0)))
+    ∙ ap (λ l. miss_in edits t e e.state ++ l) (misses_stay edits extra t es low.1)
+
+pub truth_stands_while_editing : (edits extra : List Edit) (depth t : ℕ) (received : List Kind) (tails : List ℕ) (journal : List Entry) →
+    list_all (λ e. nat_le e.edition (length edits)) journal ≡ true → TruthStands edits depth t received tails journal → TruthStands (edits ++ extra) depth t received tails journal
+truth_stands_while_editing edits extra depth t received tails journal all old = let same = misses_stay edits extra t journal all in record {
+  missing = ap (λ ms. list_all (is_missing received) ms) same ∙ old.missing;
+  looked_for = ap (λ ms. is_within (looked depth received ms) tails) same ∙ old.looked_for;
+  within = ap (λ ms. list_all (λ m. nat_le m.tail (length received)) ms) same ∙ old.within;
+  none_lost = old.none_lost;
+}
+
+-- ---- the ring
+
+pub truth_stands_of_the_ring : (edits : List Edit) (depth t : ℕ) (received unreceived : List Kind) (tails heads : List ℕ) (journal : List Entry) →
+    TruthStands edits depth t received tails journal → IsTruthful edits depth t (received ++ unreceived) tails heads journal
+truth_stands_of_the_ring edits depth t received unreceived tails heads journal old = record {
+  missing = all_missing received unreceived (misses edits t journal) old.within old.missing;
+  looked_for = ap (λ l. is_within l tails) (looked_stays depth received unreceived (misses edits t journal) old.within) ∙ old.looked_for;
+  full = ap (λ ls. list_all (λ l. l.taken == l.head + depth) ls) old.none_lost;
+  found_full = ap (λ ls. is_within (map (λ l. l.head) ls) heads) old.none_lost;
+}
+
+-- ---- the entry
+
+misses_more : (edits : List Edit) (t : ℕ) (journal : List Entry) (e : Entry) → misses edits t (journal ++ e ∷ []) ≡ misses edits t journal ++ miss_in edits t e e.state
+misses_more edits t [] e = append-nil (miss_in edits t e e.state)
+misses_more edits t (j ∷ js) e = ap (λ l. miss_in edits t j j.state ++ l) (misses_more edits t js e) ∙ sym (append_assoc (miss_in edits t j j.state) (misses edits t js) (miss_in edits t e e.state))
+
+looked_more : (depth : ℕ) (sent : List Kind) (ms ns : List Miss) → looked depth sent (ms ++ ns) ≡ looked depth sent ms ++ looked depth sent ns
+looked_more depth sent [] ns = refl
+looked_more depth sent (m ∷ ms) ns = by (was_held depth sent m) (looked_more depth sent ms ns)
+  where
+    by : (b : Bool) → looked depth sent (ms ++ ns) ≡ looked depth sent ms ++ looked depth sent ns →
+        (if b then looked depth sent (ms ++ ns) else m.tail ∷ looked depth sent (ms ++ ns)) ≡ (if b then looked depth sent ms else m.tail ∷ looked depth sent ms) ++ looked depth sent ns
+    by true e = e
+    by false e = ap (λ l. m.tail ∷ l) e
+
+lost_more : (t taken : ℕ) (journal : List Entry) (e : Entry) → (note_of t e).take ≡ Off → losses_from t taken (journal ++ e ∷ []) ≡ losses_from t taken journal
+lost_more t taken [] e off = ap (λ k. loss_of taken k ++ []) off
+lost_more t taken (j ∷ js) e off = ap (λ l. loss_of taken (note_of t j).take ++ l) (lost_more t (taken_after taken (note_of t j).take) js e off)
+
+-- no note of these is of a take
+off_at : (state : State) (tracks : List (List Kind)) (many t : ℕ) → (note_at t (notes_of state tracks (replicate many Off))).take ≡ Off
+off_at state [] many t = refl
+off_at state (xs ∷ tracks) zero t = refl
+off_at state (xs ∷ tracks) (suc many) zero = refl
+off_at state (xs ∷ tracks) (suc many) (suc t) = off_at state tracks many t
+
+-- a block is among those of a list and of its reverse
+among_append : (g s : ℕ) (xs ys : List Kind) → among s (blocks g (xs ++ ys)) ≡ (among s (blocks g xs) || among s (blocks g ys))
+among_append g s [] ys = refl
+among_append g s (Piece u h r p ∷ xs) ys = by (h == g) (among_append g s xs ys)
+  where
+    by : (b : Bool) → among s (blocks g (xs ++ ys)) ≡ (among s (blocks g xs) || among s (blocks g ys)) →
+        among s (if b then r ∷ blocks g (xs ++ ys) else blocks g (xs ++ ys)) ≡ (among s (if b then r ∷ blocks g xs else blocks g xs) || among s (blocks g ys))
+    by true e = ap (λ b. r == s || b) e ∙ sym (or_assoc (r == s) (among s (blocks g xs)) (among s (blocks g ys)))
+    by false e = e
+among_append g s (Settled k h r ∷ xs) ys = among_append g s xs ys
+among_append g s (Blank ∷ xs) ys = among_append g s xs ys
+
+among_reverse : (g s : ℕ) (xs : List Kind) → among s (blocks g (reverse xs)) ≡ among s (blocks g xs)
+among_reverse g s [] = refl
+among_reverse g s (x ∷ xs) = ap (λ l. among s (blocks g l)) (reverse-append (x ∷ []) xs) ∙ among_append g s (reverse xs) (x ∷ [])
+    ∙ ap (λ b. b || among s (blocks g (x ∷ []))) (among_reverse g s xs) ∙ or_comm (among s (blocks g xs)) (among s (blocks g (x ∷ []))) ∙ sym (among_append g s (x ∷ []) xs)
+
+-- what a state says of the tracks
+StateIs : ℕ → ℕ → List (List Kind) → State → Type 0
+StateIs g n tracks Stopped = Unit {0}
+StateIs g n tracks (Seeking u tail) = (n ≡ 0) × (waiting g 0 tracks ≡ Some (u, tail))
+StateIs g n tracks (Rolling h s) = (h ≡ g) × (s ≡ n)
+
+first_is : (g : ℕ) (tracks : List (List Kind)) (o : Option (ℕ × ℕ)) → waiting g 0 tracks ≡ o → StateIs g 0 tracks (first_state g o)
+unfolding StateIs
+first_is g tracks None is = (refl, refl)
+first_is g tracks (Some w) is = (refl, is)
+
+state_is : (rolls : Bool) (g n : ℕ) (tracks : List (List Kind)) → StateIs g n tracks (state_of rolls g n tracks)
+unfolding StateIs
+state_is false g n tracks = tt
+state_is true g zero tracks = first_is g tracks (waiting g 0 tracks) refl
+state_is true g (suc n) tracks = (refl, refl)
+
+same_pair : (a b c d : ℕ) → ◌≡◌ {A = Option (ℕ × ℕ)} (Some (a, b)) (Some (c, d)) → (a ≡ c) × (b ≡ d)
+same_pair a b c d e = (ap (λ (o : Option (ℕ × ℕ)). option_map_or (λ p. p.0) o 0) e, ap (λ (o : Option (ℕ × ℕ)). option_map_or (λ p. p.1) o 0) e)
+
+-- a track that waits is none before the first one asked
+past : (g k : ℕ) (tracks : List (List Kind)) (u tail : ℕ) → waiting g k tracks ≡ Some (u, tail) → k ≤ u
+past g k [] u tail waits = absurd (none_is_some waits)
+  where
+    none_is_some : ◌≡◌ {A = Option (ℕ × ℕ)} None (Some (u, tail)) → ⊥
+    none_is_some e = cc
+past g k (y ∷ ys) u tail waits = by (has_piece g 0 y) refl (past g (suc k) ys u tail)
+  where
+    by : (b : Bool) → has_piece g 0 y ≡ b → (waiting g (suc k) ys ≡ Some (u, tail) → suc k ≤ u) → k ≤ u
+    by true e rest = let low = rest (sym (ap (λ b. if b then waiting g (suc k) ys else Some (k, length y)) e) ∙ waits) in omega arith
+    by false e rest = let same = (same_pair k (length y) u tail (sym (ap (λ b. if b then waiting g (suc k) ys else Some (k, length y)) e) ∙ waits)).0 in omega arith
+
+-- the track that waits is without its first piece
+waits_there : (g k i : ℕ) (tracks : List (List Kind)) (xs : List Kind) (u tail : ℕ) → waiting g k tracks ≡ Some (u, tail) → slice_get tracks i ≡ Some xs → k + i ≡ u →
+    (tail ≡ length xs) × (has_piece g 0 xs ≡ false)
+waits_there g k i [] xs u tail waits there at = absurd (none_is_some there)
+  where
+    none_is_some : None ≡ Some xs → ⊥
+    none_is_some e = cc
+waits_there g k zero (y ∷ ys) xs u tail waits there at = by (has_piece g 0 y) refl
+  where
+    same : y ≡ xs
+    same = cc
+
+    by : (b : Bool) → has_piece g 0 y ≡ b → (tail ≡ length xs) × (has_piece g 0 xs ≡ false)
+    by true e = let later = past g (suc k) ys u tail (sym (ap (λ b. if b then waiting g (suc k) ys else Some (k, length y)) e) ∙ waits) in absurd (omega arith)
+    by false e = (sym (same_pair k (length y) u tail (sym (ap (λ b. if b then waiting g (suc k) ys else Some (k, length y)) e) ∙ waits)).1 ∙ ap length same, sym (ap (has_piece g 0) same) ∙ e)
+waits_there g k (suc i) (y ∷ ys) xs u tail waits there at = by (has_piece g 0 y) refl (waits_there g (suc k) i ys xs u tail)
+  where
+    by : (b : Bool) → has_piece g 0 y ≡ b → (waiting g (suc k) ys ≡ Some (u, tail) → slice_get ys i ≡ Some xs → suc k + i ≡ u → (tail ≡ length xs) × (has_piece g 0 xs ≡ false)) →
+        (tail ≡ length xs) × (has_piece g 0 xs ≡ false)
+    by true e rest = rest (sym (ap (λ b. if b then waiting g (suc k) ys else Some (k, length y)) e) ∙ waits) there (omega arith)
+    by false e rest = let early = (same_pair k (length y) u tail (sym (ap (λ b. if b then waiting g (suc k) ys else Some (k, length y)) e) ∙ waits)).0 in absurd (omega arith)
+
+-- a miss of the track in a new entry: its block isn't among what was received
+IsNewMiss : ℕ → ℕ → List Kind → List Miss → Type 0
+IsNewMiss g n xs ms = (ms ≡ []) ⊎ ((ms ≡ record { generation = g; block = n; tail = length xs } ∷ []) × (has_piece g n xs ≡ false))
+
+miss_of : (g n h s : ℕ) (xs : List Kind) (b : Bool) → h ≡ g → s ≡ n → has_piece h s xs ≡ b → IsNewMiss g n xs (miss_of_play h s (if b then Heard (newest h s xs) else Short (length xs)))
+unfolding IsNewMiss
+miss_of g n h s xs true same place e = inl refl
+miss_of g n h s xs false same place e = inr (
+  ap (λ k. record { generation = k; block = s; tail = length xs } ∷ []) same ∙ ap (λ k. record { generation = g; block = k; tail = length xs } ∷ []) place,
+  sym (ap (λ k. has_piece k s xs) same ∙ ap (λ k. has_piece g k xs) place) ∙ e,
+)
+
+seek_of : (g n u tail t : ℕ) (tracks : List (List Kind)) (xs : List Kind) (b : Bool) → n ≡ 0 → waiting g 0 tracks ≡ Some (u, tail) → slice_get tracks t ≡ Some xs → (u == t) ≡ b →
+    IsNewMiss g n xs (if b then record { generation = g; block = 0; tail = tail } ∷ [] else [])
+unfolding IsNewMiss
+seek_of g n u tail t tracks xs false none waits there e = inl refl
+seek_of g n u tail t tracks xs true none waits there e = let same : u ≡ t = eqb-true u t e in let is = waits_there g 0 t tracks xs u tail waits there (omega arith) in
+    inr (ap (λ k. record { generation = g; block = k; tail = tail } ∷ []) (sym none) ∙ ap (λ k. record { generation = g; block = n; tail = k } ∷ []) is.0, ap (λ k. has_piece g k xs) none ∙ is.1)
+
+new_misses : (edits : List Edit) (t settled n : ℕ) (tracks : List (List Kind)) (xs : List Kind) (takes : List Take) (state : State) → length takes ≡ length tracks → slice_get tracks t ≡ Some xs →
+    StateIs (generation edits (length edits)) n tracks state →
+    IsNewMiss (generation edits (length edits)) n xs (miss_in edits t (record { edition = length edits; settled = settled; state = state; notes = notes_of state tracks takes }) state)
+unfolding StateIs IsNewMiss
+new_misses edits t settled n tracks xs takes Stopped many there is = inl refl
+new_misses edits t settled n tracks xs takes (Seeking u tail) many there is = seek_of (generation edits (length edits)) n u tail t tracks xs (u == t) is.0 is.1 there refl
+new_misses edits t settled n tracks xs takes (Rolling h s) many there is = subst (λ p. IsNewMiss (generation edits (length edits)) n xs (miss_of_play h s p)) (sym (note_is (Rolling h s) tracks takes t xs many there))
+    (miss_of (generation edits (length edits)) n h s xs (has_piece h s xs) is.0 is.1 refl)
+
+-- ---- the entry, put together
+
+take_all : (xs : List Kind) → take (length xs) (reverse xs) ≡ reverse xs
+take_all xs = ap (λ n. take n (reverse xs)) (sym (length-reverse xs)) ∙ take-length (reverse xs)
+
+one_missing : (g n : ℕ) (xs : List Kind) → has_piece g n xs ≡ false → is_missing (reverse xs) (record { generation = g; block = n; tail = length xs }) ≡ true
+one_missing g n xs none = ap (λ l. not (among n (blocks g l))) (take_all xs) ∙ ap not (among_reverse g n xs ∙ none)
+
+-- the last item received is held
+last_of : (xs : List Kind) (x : Kind) → item_at (length xs) (xs ++ x ∷ []) ≡ x
+last_of [] x = refl
+last_of (y ∷ ys) x = last_of ys x
+
+held_last : (depth g n : ℕ) (xs rest : List Kind) (x : Kind) → reverse xs ≡ rest ++ x ∷ [] → is_held depth g n x ≡ true →
+    was_held depth (reverse xs) (record { generation = g; block = n; tail = length xs }) ≡ true
+held_last depth g n xs rest x is held = and_from (nat_lt 0 (length xs) && nat_le (length xs) (length (reverse xs))) (is_held depth g n (item_at (length xs - 1) (reverse xs)))
+    (and_from (nat_lt 0 (length xs)) (nat_le (length xs) (length (reverse xs))) (lt-ltb 0 (length xs) some) (le-leb (length xs) (length (reverse xs)) enough))
+    (ap (λ l. is_held depth g n (item_at (length xs - 1) l)) is ∙ ap (λ k. is_held depth g n (item_at k (rest ++ x ∷ []))) place ∙ ap (is_held depth g n) (last_of rest x) ∙ held)
+  where
+    long : length xs ≡ length rest + 1
+    long = sym (length-reverse xs) ∙ ap length is ∙ length-append rest (x ∷ [])
+
+    some : 0 < length xs
+    some = omega (arith, long)
+
+    enough : length xs ≤ length (reverse xs)
+    enough = grind (arith, length-reverse xs)
+
+    place : length xs - 1 ≡ length rest
+    place = omega (arith, long)
+
+-- what is looked for in one miss more
+looks_by : (depth g n : ℕ) (xs : List Kind) (old before tails : List ℕ) (b : Bool) → was_held depth (reverse xs) (record { generation = g; block = n; tail = length xs }) ≡ b → is_within old before ≡ true →
+    HasLooked depth g n (reverse xs) before tails → is_within (old ++ (if b then [] else length xs ∷ [])) tails ≡ true
+looks_by depth g n xs old before tails true e within (inl look) = ap (λ l. is_within l tails) (append-nil old)
+    ∙ ap (is_within old) (look.1 ∙ append_assoc before look.0 (length (reverse xs) ∷ [])) ∙ within_more old before (look.0 ++ length (reverse xs) ∷ []) within
+looks_by depth g n xs old before tails false e within (inl look) = ap (is_within (old ++ length xs ∷ [])) (look.1 ∙ ap (λ k. before ++ look.0 ++ k ∷ []) (length-reverse xs))
+    ∙ within_both old before look.0 (length xs) within
+looks_by depth g n xs old before tails true e within (inr look) = ap (λ l. is_within l tails) (append-nil old) ∙ ap (is_within old) look.5 ∙ within_more old before look.2 within
+looks_by depth g n xs old before tails false e within (inr look) = absurd (true≢false (sym (held_last depth g n xs look.1 look.0 look.3 look.4) ∙ e))
+
+-- and in no miss more
+looks_none : (depth g n : ℕ) (xs : List Kind) (old before tails : List ℕ) → is_within old before ≡ true → HasLooked depth g n (reverse xs) before tails → is_within old tails ≡ true
+looks_none depth g n xs old before tails within (inl look) = ap (is_within old) (look.1 ∙ append_assoc before look.0 (length (reverse xs) ∷ [])) ∙ within_more old before (look.0 ++ length (reverse xs) ∷ []) within
+looks_none depth g n xs old before tails within (inr look) = ap (is_within old) look.5 ∙ within_more old before look.2 within
+
+both_true : {a b : Bool} → a ≡ true → b ≡ true → a && b ≡ true
+both_true {a} {b} h k = and_from a b h k
+
+by_misses : (edits : List Edit) (depth t g n : ℕ) (xs : List Kind) (before tails : List ℕ) (journal : List Entry) (ms : List Miss) → IsNewMiss g n xs ms →
+    HasLooked depth g n (reverse xs) before tails → TruthStands edits depth t (reverse xs) before journal →
+    (list_all (is_missing (reverse xs)) (misses edits t journal ++ ms) ≡ true) × (is_within (looked depth (reverse xs) (misses edits t journal ++ ms)) tails ≡ true)
+    × (list_all (λ m. nat_le m.tail (length (reverse xs))) (misses edits t journal ++ ms) ≡ true)
+unfolding IsNewMiss
+by_misses edits depth t g n xs before tails journal ms (inl none) look old = by ms none
+  where
+    by : (l : List Miss) → l ≡ [] →
+        (list_all (is_missing (reverse xs)) (misses edits t journal ++ l) ≡ true) × (is_within (looked depth (reverse xs) (misses edits t journal ++ l)) tails ≡ true)
+        × (list_all (λ m. nat_le m.tail (length (reverse xs))) (misses edits t journal ++ l) ≡ true)
+    by l e = let same : misses edits t journal ++ l ≡ misses edits t journal = ap (λ k. misses edits t journal ++ k) e ∙ append-nil (misses edits t journal) in (
+      ap (list_all (is_missing (reverse xs))) same ∙ old.missing,
+      ap (λ k. is_within (looked depth (reverse xs) k) tails) same ∙ looks_none depth g n xs (looked depth (reverse xs) (misses edits t journal)) before tails old.looked_for look,
+      ap (list_all (λ m. nat_le m.tail (length (reverse xs)))) same ∙ old.within,
+    )
+by_misses edits depth t g n xs before tails journal ms (inr one) look old = (
+  ap (λ l. list_all (is_missing (reverse xs)) (misses edits t journal ++ l)) one.0
+      ∙ list_all-append (is_missing (reverse xs)) (misses edits t journal) (record { generation = g; block = n; tail = length xs } ∷ [])
+      ∙ both_true old.missing (both_true (one_missing g n xs one.1) refl),
+  ap (λ l. is_within (looked depth (reverse xs) (misses edits t journal ++ l)) tails) one.0
+      ∙ ap (λ l. is_within l tails) (looked_more depth (reverse xs) (misses edits t journal) (record { generation = g; block = n; tail = length xs } ∷ []))
+      ∙ looks_by depth g n xs (looked depth (reverse xs) (misses edits t journal)) before tails (was_held depth (reverse xs) (record { generation = g; block = n; tail = length xs })) refl old.looked_for look,
+  ap (λ l. list_all (λ m. nat_le m.tail (length (reverse xs))) (misses edits t journal ++ l)) one.0
+      ∙ list_all-append (λ m. nat_le m.tail (length (reverse xs))) (misses edits t journal) (record { generation = g; block = n; tail = length xs } ∷ [])
+      ∙ both_true old.within (both_true (le-leb (length xs) (length (reverse xs)) (grind (arith, length-reverse xs))) refl),
+)
+
+pub truth_stands_with_its_entry : (session : Session) (edits : List Edit) (depth t : ℕ) (before tails : List ℕ) (tracks : List (List Kind)) (xs : List Kind) (journal : List Entry) →
+    slice_get tracks t ≡ Some xs → length tracks ≡ length session.tracks.items →
+    HasLooked depth (generation edits (length edits)) (rolled (generation edits (length edits)) (reverse journal)) (reverse xs) before tails →
+    TruthStands edits depth t (reverse xs) before journal →
+    TruthStands edits depth t (reverse xs) tails (journal ++ entry_of session edits (reverse journal) tracks (no_takes session) (length edits) ∷ [])
+truth_stands_with_its_entry session edits depth t before tails tracks xs journal there many look old =
+    let r : ℕ = length edits in let g : ℕ = generation edits r in let n : ℕ = rolled g (reverse journal) in let rolls : Bool = (edition session edits r).transport.rolling in
+    let state : State = state_of rolls g n tracks in let e : Entry = entry_of session edits (reverse journal) tracks (no_takes session) r in
+    let new = new_misses edits t e.settled n tracks xs (no_takes session) state (length-replicate (length session.tracks.items) Off ∙ sym many) there (state_is rolls g n tracks) in
+    let all = by_misses edits depth t g n xs before tails journal (miss_in edits t e state) new look old in
+    let more = misses_more edits t journal e in record {
+      missing = ap (list_all (is_missing (reverse xs))) more ∙ all.0;
+      looked_for = ap (λ l. is_within (looked depth (reverse xs) l) tails) more ∙ all.1;
+      within = ap (list_all (λ m. nat_le m.tail (length (reverse xs)))) more ∙ all.2;
+      none_lost = lost_more t 0 journal e (off_at state tracks (length session.tracks.items) t) ∙ old.none_lost;
+    }

@@ -1,0 +1,2 @@
+-- What tests of the boxes rest on.
+mod TestLemmas

@@ -1,0 +1,23 @@
+//! An acknowledgement: how far the process came, told to butler and control.
+use disk_ring::Roomy;
+
+/// What the process tells after an entry of its journal (own).
+#[derive(Clone, Copy, Debug, PartialEq, Eq)]
+pub struct Ack {
+    /// The number of the entry, from 1.
+    pub cycle: u32,
+    /// The generation of the entry's edition.
+    pub generation: u32,
+    /// The next block of that generation: how many of its cycles rolled so far.
+    pub next: u32,
+    /// The edition up to which the entry is settled.
+    pub settled: u32,
+}
+
+impl Roomy for Ack {
+    ghost room_of = { λ _. 0 };
+
+    fn room(&self) -> u32 {
+        0
+    }
+}

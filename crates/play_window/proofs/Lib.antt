@@ -1,0 +1,7 @@
+-- A window stays the window of its offers.
+mod BoxLemmas
+pub mod GivenLemmas
+mod MarkLemmas
+mod KeepLemmas
+pub mod ShowLemmas
+mod Vectors

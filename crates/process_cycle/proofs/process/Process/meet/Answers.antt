@@ -1,0 +1,12 @@
+use Rattle.std.proofs.Common.{length, ap, ◌∙◌, sym, subst}
+use Rattle.process_cycle.specs.Playing.{IsPlaying}
+use Rattle.process_cycle.proofs.MeetingLemmas.{knows_after_a_meeting, plays_after_a_meeting}
+use Rattle.process_cycle.proofs.process.Process.meet.Goals as goal
+
+pub invariant_of-self : goal.invariant_of-self
+invariant_of-self g c = knows_after_a_meeting _ _ _ _ c.self.inside.decks.items c.meet_ends.ensures.plays (ap (λ p. length p.ends.plays.items) c.self.view_is ∙ c.requires.plays.count) c.self.invariant
+
+pub returns-clause-playing : goal.returns-clause-playing
+returns-clause-playing g c = λ s edits playing. let meet = c.meet_ends.ensures in
+    plays_after_a_meeting s edits _ (subst (IsPlaying s edits) (sym c.self.view_is) playing) _ _ _ meet.plays (ap (λ p. length p.ends.plays.items) c.self.view_is ∙ c.requires.plays.count) _ _ _ meet.takes _ _
+    meet.acks.sender _ meet.to_control

@@ -1,0 +1,13 @@
+use Rattle.std.proofs.Common.{length, ◌∙◌}
+use Rattle.process_cycle.proofs.ScratchLemmas.{at_error, block_more, part_of_zeros}
+use Rattle.process_cycle.proofs.scratch.write_zeros.Goals as goal
+
+pub loop-block-preserved : goal.loop-block-preserved
+loop-block-preserved g c = let l = c.loop-block in record {
+  held = λ t. block_more _ _ _ _ l._block (length c.args.zeros.now) c.requires.zeros (l.invariant.held t) (c.in_ok-write_all.ensures.ok t);
+  count = c.in_ok-write_all.ensures.cause.kept ∙ l.invariant.count;
+}
+
+pub returns-in_err-write_all-clause-front : goal.returns-in_err-write_all-clause-front
+returns-in_err-write_all-clause-front g c = let l = c.loop-block in
+    λ t. at_error c.from_residual.result (part_of_zeros _ _ _ _ l._block (length c.args.zeros.now) c.args.blocks c.loop-block-test.true c.requires.zeros (l.invariant.held t) (c.in_err-write_all.ensures.err t))
