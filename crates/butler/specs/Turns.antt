@@ -47,6 +47,12 @@ Answers s edits cycles acks most old (Ok (Moved n)) new = (1 ≤ n) × Leaves s 
 Answers s edits cycles acks most old (Ok Idle) new = Leaves s edits cycles acks most 0 old new
 Answers s edits cycles acks most old (Err ReadFault) new = AreClosed new
 
+-- once a read has failed, a turn sends nothing, reads nothing and is Idle
+pub record IsQuiet {V : Type 0} (old : Seen V) (answer : Result Turn ButlerFault) (new : Seen V) : Type 0 where
+  pub idle : answer ≡ Ok Idle
+  pub sends : new.ends.sends ≡ old.ends.sends
+  pub media : new.media ≡ old.media
+
 -- what no turn changes
 pub record KeepsRest {V : Type 0} (old new : Seen V) : Type 0 where
   pub sources : new.sources ≡ old.sources

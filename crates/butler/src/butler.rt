@@ -1,5 +1,5 @@
 //! A butler: in a turn it takes acknowledgements, enters the edition, and sends what is due of each track.
-ghost use Rattle.std.specs.Prelude.{◌≡◌, ◌<◌, ℕ, false, List, length, IfOk, IfErr, slice_get, Some};
+ghost use Rattle.std.specs.Prelude.{◌≡◌, ◌<◌, ℕ, true, false, if◌then◌else◌, is_err, List, length, IfOk, IfErr, slice_get, Some};
 ghost use mathlib.Core.List.{IsPrefix};
 ghost use Rattle.ses_io.specs.Faults.{HasCause};
 ghost use Rattle.session_model.specs.declared.session.Session.{Session as Opening};
@@ -12,7 +12,7 @@ ghost use Rattle.butler.specs.Sends.{acks_of, SendsOf};
 ghost use Rattle.butler.specs.Table.{IsTable, TakesAll};
 ghost use Rattle.butler.specs.Serving.{IsServing, AreGenuine, AreStocked, MayBegin, IsGiven};
 ghost use Rattle.butler.specs.Serves.{AreEntered, IsReady, AllStocked};
-ghost use Rattle.butler.specs.Turns.{Enters, Answers, KeepsRest};
+ghost use Rattle.butler.specs.Turns.{Enters, Answers, IsQuiet, KeepsRest};
 ghost use Rattle.butler.specs.Outcomes.{Outcome};
 
 use crate::accepting::{accept, next_of};
@@ -109,6 +109,8 @@ impl<M: Media> Butler<M> {
         ensures answer { (s : Opening) (before : List Edit) → Enters s before self.old e.now
             → Answers s e.now.edits self.old.cycles (acks_of self.new.ends.acks.received) most
             self.old.ends.sends.items result self.new.ends.sends.items }
+        ensures failed { self.new.failed ≡ (if is_err result then true else self.old.failed) }
+        ensures quiet { self.old.failed ≡ true → IsQuiet self.old result self.new }
         ensures rest { KeepsRest self.old self.new }
         ensures files { M.files self.new.media ≡ M.files self.old.media }
         ensures cause { HasCause (M.read_faults self.old.media) (M.read_faults self.new.media) result }

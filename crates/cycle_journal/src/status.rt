@@ -53,7 +53,7 @@ pub enum Status {
     TakesExist(Name),
     /// Control gave 16,777,216 bytes, and no accepted `quit` stood in them: 17.
     ControlTooLong,
-    /// The session, or its source's file, isn't in the small form that is built so far: 20.
+    /// The session is valid, and isn't of the plain form that is built so far: 20.
     NotBuilt,
 }
 

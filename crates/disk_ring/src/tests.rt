@@ -14,7 +14,7 @@ mod meetings;
 mod threads;
 
 /// An item that is told by its number.
-#[derive(Debug, Drop)]
+#[derive(Drop)]
 pub struct Tag {
     pub number: u64,
 }
@@ -28,7 +28,7 @@ impl Roomy for Tag {
 }
 
 /// What a call answered, with the number of the box that came back.
-#[derive(Clone, Copy, Debug, PartialEq, Eq)]
+#[derive(Clone, Copy, PartialEq, Eq)]
 enum Answer {
     Put,
     Full { number: u64, head: u64 },
@@ -87,66 +87,154 @@ fn take(from: &mut RingOut<Tag>, husk: Box<Tag>) -> Answer
     }
 }
 
-// The rows of a ring of two boxes: filled, emptied, filled again in part, closed.
-#[test]
-fn a_ring_of_two_boxes(rt: HostRuntime) -> Result<(), Fail> {
-    let alloc = rt.alloc();
-    let (mut to, mut from) = new_ring(alloc, 2)?;
-    assert_eq!(rt; put(&mut to, boxed(alloc, 1)?), Answer::Put);
-    assert_eq!(rt; put(&mut to, boxed(alloc, 2)?), Answer::Put);
-    let refused = put(&mut to, boxed(alloc, 3)?);
-    assert_eq!(rt; refused, Answer::Full { number: 3, head: 0 });
-    assert_eq!(rt;
-        take(&mut from, boxed(alloc, 9)?),
-        Answer::Took { number: 1 }
-    );
-    assert_eq!(rt; put(&mut to, boxed(alloc, 3)?), Answer::Put);
-    assert_eq!(rt;
-        take(&mut from, boxed(alloc, 9)?),
-        Answer::Took { number: 2 }
-    );
-    assert_eq!(rt;
-        take(&mut from, boxed(alloc, 9)?),
-        Answer::Took { number: 3 }
-    );
-    let empty = take(&mut from, boxed(alloc, 9)?);
-    assert_eq!(rt; empty, Answer::Empty { husk: 9, tail: 3 });
-    to.close();
-    let closed = take(&mut from, boxed(alloc, 8)?);
-    assert_eq!(rt; closed, Answer::Closed { husk: 8, tail: 3 });
-    Ok(())
+/// A call, with what it has to answer.
+#[derive(Clone, Copy)]
+enum Step {
+    /// An item of that number is put.
+    Put(u64, Answer),
+    /// A box of that number is given to take an item.
+    Take(u64, Answer),
 }
 
-#[test]
-fn a_ring_of_four_boxes_holds_four(rt: HostRuntime) -> Result<(), Fail> {
-    let alloc = rt.alloc();
-    let (mut to, mut from) = new_ring(alloc, 4)?;
-    assert_eq!(rt; put(&mut to, boxed(alloc, 1)?), Answer::Put);
-    assert_eq!(rt;
-        take(&mut from, boxed(alloc, 9)?),
-        Answer::Took { number: 1 }
-    );
-    for number in 2..6 {
-        assert_eq!(rt; put(&mut to, boxed(alloc, number)?), Answer::Put);
+/// The rows of a ring: its boxes, the calls while it is open, and those after it was closed.
+struct Run {
+    depth: u32,
+    open: &'static [Step],
+    closed: &'static [(u64, Answer)],
+}
+
+const RUNS: [Run; 3] = [
+    // filled, emptied, filled again in part, closed
+    Run {
+        depth: 2,
+        open: &[
+            Step::Put(1, Answer::Put),
+            Step::Put(2, Answer::Put),
+            Step::Put(3, Answer::Full { number: 3, head: 0 }),
+            Step::Take(9, Answer::Took { number: 1 }),
+            Step::Put(3, Answer::Put),
+            Step::Take(9, Answer::Took { number: 2 }),
+            Step::Take(9, Answer::Took { number: 3 }),
+            Step::Take(9, Answer::Empty { husk: 9, tail: 3 }),
+        ],
+        closed: &[(8, Answer::Closed { husk: 8, tail: 3 })],
+    },
+    // four boxes hold four
+    Run {
+        depth: 4,
+        open: &[
+            Step::Put(1, Answer::Put),
+            Step::Take(9, Answer::Took { number: 1 }),
+            Step::Put(2, Answer::Put),
+            Step::Put(3, Answer::Put),
+            Step::Put(4, Answer::Put),
+            Step::Put(5, Answer::Put),
+            Step::Put(6, Answer::Full { number: 6, head: 1 }),
+        ],
+        closed: &[],
+    },
+    // closed comes after the items
+    Run {
+        depth: 2,
+        open: &[Step::Put(1, Answer::Put)],
+        closed: &[
+            (9, Answer::Took { number: 1 }),
+            (9, Answer::Closed { husk: 9, tail: 1 }),
+        ],
+    },
+];
+
+// Whether a call was answered as it says.
+fn does(
+    alloc: Global,
+    to: &mut RingIn<Tag>,
+    from: &mut RingOut<Tag>,
+    step: Step,
+) -> Result<bool, NoMemory>
+    requires open { to.old.closed ≡ false }
+    requires room { (to.old.room ≡ 0) × (from.old.room ≡ 0) }
+    ensures open { to.new.closed ≡ false }
+    ensures room { (to.new.room ≡ 0) × (from.new.room ≡ 0) }
+{
+    match step {
+        Step::Put(number, want) => Ok(put(to, boxed(alloc, number)?) == want),
+        Step::Take(husk, want) => Ok(take(from, boxed(alloc, husk)?) == want),
     }
-    let refused = put(&mut to, boxed(alloc, 6)?);
-    assert_eq!(rt; refused, Answer::Full { number: 6, head: 1 });
-    Ok(())
+}
+
+fn does_all(
+    alloc: Global,
+    to: &mut RingIn<Tag>,
+    from: &mut RingOut<Tag>,
+    steps: &[Step],
+) -> Result<bool, NoMemory>
+    requires open { to.old.closed ≡ false }
+    requires room { (to.old.room ≡ 0) × (from.old.room ≡ 0) }
+    ensures { from.new.room ≡ 0 }
+{
+    for step in steps {
+        if !does(alloc, to, from, *step)? {
+            return Ok(false);
+        }
+    }
+    Ok(true)
+}
+
+fn takes_all(
+    alloc: Global,
+    from: &mut RingOut<Tag>,
+    takes: &[(u64, Answer)],
+) -> Result<bool, NoMemory>
+    requires { from.old.room ≡ 0 }
+{
+    for row in takes {
+        let (husk, want) = row;
+        if take(from, boxed(alloc, *husk)?) != *want {
+            return Ok(false);
+        }
+    }
+    Ok(true)
+}
+
+// Whether each call of a run was answered as it says.
+fn is_right(alloc: Global, run: &Run) -> Result<bool, NoMemory> {
+    if run.depth == 0 {
+        return Ok(false);
+    }
+    let (mut to, mut from) = new_ring(alloc, run.depth)?;
+    if !does_all(alloc, &mut to, &mut from, run.open)? {
+        return Ok(false);
+    }
+    to.close();
+    takes_all(alloc, &mut from, run.closed)
 }
 
 #[test]
-fn closed_comes_after_the_items(rt: HostRuntime) -> Result<(), Fail> {
-    let alloc = rt.alloc();
-    let (mut to, mut from) = new_ring(alloc, 2)?;
-    assert_eq!(rt; put(&mut to, boxed(alloc, 1)?), Answer::Put);
-    to.close();
-    assert_eq!(rt;
-        take(&mut from, boxed(alloc, 9)?),
-        Answer::Took { number: 1 }
-    );
-    let closed = take(&mut from, boxed(alloc, 9)?);
-    assert_eq!(rt; closed, Answer::Closed { husk: 9, tail: 1 });
-    Ok(())
+fn each_call_is_answered_as_it_was_worked_out(rt: HostRuntime) {
+    for run in &RUNS {
+        assert_eq!(rt; is_right(rt.alloc(), run), Ok(true), "{} boxes", run.depth);
+    }
+}
+
+// The number of the husk that comes back when a second item is put into a ring of one box, after its ends met again;
+// before they did, the item came back.
+fn husk_of_second(
+    alloc: Global,
+    to: &mut RingIn<Tag>,
+    from: &mut RingOut<Tag>,
+) -> Result<Option<u64>, NoMemory>
+    requires open { to.old.closed ≡ false }
+    requires room { (to.old.room ≡ 0) × (from.old.room ≡ 0) }
+    requires ring { from.old.ring ≡ to.old.ring }
+    ensures { from.new.ring ≡ to.new.ring }
+{
+    let refused = put(to, boxed(alloc, 2)?);
+    let taken = take(from, boxed(alloc, 9)?);
+    meet(to, from);
+    if refused != (Answer::Full { number: 2, head: 0 }) || taken != (Answer::Took { number: 1 }) {
+        return Ok(None);
+    }
+    Ok(to.put(boxed(alloc, 2)?).ok().map(|husk| husk.number))
 }
 
 // Two ends that met: the husks that `put` hands back are the boxes that the ring began with.
@@ -154,17 +242,9 @@ fn closed_comes_after_the_items(rt: HostRuntime) -> Result<(), Fail> {
 fn ends_meet_and_are_joined(rt: HostRuntime) -> Result<(), Fail> {
     let alloc = rt.alloc();
     let (mut to, mut from) = new_ring(alloc, 1)?;
-    assert_eq!(rt; put(&mut to, boxed(alloc, 1)?), Answer::Put);
+    assert!(rt; put(&mut to, boxed(alloc, 1)?) == Answer::Put);
     meet(&mut to, &mut from);
-    let refused = put(&mut to, boxed(alloc, 2)?);
-    assert_eq!(rt; refused, Answer::Full { number: 2, head: 0 });
-    assert_eq!(rt;
-        take(&mut from, boxed(alloc, 9)?),
-        Answer::Took { number: 1 }
-    );
-    meet(&mut to, &mut from);
-    let husk = to.put(boxed(alloc, 2)?);
-    assert_eq!(rt; husk.ok().map(|husk| husk.number), Some(9));
+    assert_eq!(rt; husk_of_second(alloc, &mut to, &mut from)?, Some(9));
     rejoin(to, from).facts();
     Ok(())
 }

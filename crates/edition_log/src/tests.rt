@@ -59,58 +59,86 @@ fn carry_out(e: &mut Edition, edit: Edit) -> Option<Result<u32, Refusal>> {
     }
 }
 
+fn opened(alloc: Global) -> Result<Edition, Fail> {
+    Ok(Edition::opening(alloc, master_alone(alloc)?)?)
+}
+
+const FAR: u64 = 1 << 40;
+
+// Whether two edits are counted, and a refused one isn't.
+fn counts(e: &mut Edition) -> bool {
+    e.number() == 0
+        && carry_out(e, Edit::Roll) == Some(Ok(1))
+        && carry_out(e, Edit::Locate { to: 4 }) == Some(Ok(2))
+        && carry_out(e, Edit::Locate { to: FAR }) == Some(Err(Refusal::Far(FAR)))
+        && e.number() == 2
+}
+
+// Whether it plays as those edits say.
+fn plays(e: &Edition) -> bool {
+    let transport = e.transport();
+    transport.place(3) == 7 && transport.generation == 1 && transport.rolling
+}
+
+fn lists(e: &Edition) -> bool {
+    e.edits().as_slice() == [Edit::Roll, Edit::Locate { to: 4 }].as_slice()
+        && e.order().routes() == [0].as_slice()
+}
+
+fn ends(e: &mut Edition) -> bool {
+    e.end();
+    e.ended()
+}
+
 #[test]
 fn edits_count_from_one(rt: HostRuntime) -> Result<(), Fail> {
-    let mut e = Edition::opening(rt.alloc(), master_alone(rt.alloc())?)?;
-    assert_eq!(rt; e.number(), 0);
-    assert_eq!(rt; carry_out(&mut e, Edit::Roll), Some(Ok(1)));
-    assert_eq!(rt; carry_out(&mut e, Edit::Locate { to: 4 }), Some(Ok(2)));
-    assert_eq!(rt; e.transport().place(3), 7);
-    assert_eq!(rt; e.transport().generation, 1);
-    assert!(rt; e.transport().rolling);
-    let far = 1 << 40;
-    assert_eq!(rt;
-        carry_out(&mut e, Edit::Locate { to: far }),
-        Some(Err(Refusal::Far(far)))
-    );
-    assert_eq!(rt; e.number(), 2);
-    assert_eq!(rt;
-        e.edits().as_slice(),
-        [Edit::Roll, Edit::Locate { to: 4 }].as_slice()
-    );
-    assert_eq!(rt; e.order().routes(), [0].as_slice());
-    e.end();
-    assert!(rt; e.ended());
+    let mut e = opened(rt.alloc())?;
+    assert!(rt; counts(&mut e) && plays(&e) && lists(&e) && ends(&mut e));
     Ok(())
+}
+
+fn takes_ten_thousand(e: &mut Edition) -> bool {
+    for k in 1..=10_000 {
+        if carry_out(e, Edit::Locate { to: 7 }) != Some(Ok(k)) {
+            return false;
+        }
+    }
+    e.transport().generation == 10_000
+}
+
+// Whether it takes no edit; that comes before what else is wrong with one.
+fn is_full(e: &mut Edition) -> bool {
+    let full = Some(Err(Refusal::Limit(Bound::Edits)));
+    carry_out(e, Edit::Roll) == full
+        && carry_out(e, Edit::Locate { to: u64::MAX }) == full
+        && e.transport().generation == 10_000
 }
 
 #[test]
 fn ten_thousand_edits_have_room(rt: HostRuntime) -> Result<(), Fail> {
-    let mut e = Edition::opening(rt.alloc(), master_alone(rt.alloc())?)?;
-    for k in 1..=10_000 {
-        assert_eq!(rt; carry_out(&mut e, Edit::Locate { to: 7 }), Some(Ok(k)));
-    }
-    let full = Some(Err(Refusal::Limit(Bound::Edits)));
-    assert_eq!(rt; carry_out(&mut e, Edit::Roll), full);
-    assert_eq!(rt;
-        carry_out(&mut e, Edit::Locate { to: u64::MAX }),
-        full,
-        "the limit comes first"
-    );
-    assert_eq!(rt; e.transport().generation, 10_000);
+    let mut e = opened(rt.alloc())?;
+    assert!(rt; takes_ten_thousand(&mut e) && is_full(&mut e));
     Ok(())
+}
+
+// The number of edits, and the place that the last of them went to.
+fn seen(e: &Edition) -> (u32, u64) {
+    (e.number(), e.transport().target)
+}
+
+fn part(e: &mut Edition, other: &mut Edition) -> bool {
+    seen(other) == (1, 0)
+        && carry_out(other, Edit::Locate { to: 9 }) == Some(Ok(2))
+        && seen(e) == (1, 0)
+        && carry_out(e, Edit::Locate { to: 5 }) == Some(Ok(2))
+        && seen(other) == (2, 9)
 }
 
 #[test]
 fn a_twin_goes_its_own_way(rt: HostRuntime) -> Result<(), Fail> {
-    let mut e = Edition::opening(rt.alloc(), master_alone(rt.alloc())?)?;
+    let mut e = opened(rt.alloc())?;
     assert_eq!(rt; carry_out(&mut e, Edit::Roll), Some(Ok(1)));
     let mut other = e.twin(rt.alloc())?;
-    assert_eq!(rt; other.number(), 1);
-    assert_eq!(rt; carry_out(&mut other, Edit::Locate { to: 9 }), Some(Ok(2)));
-    assert_eq!(rt; e.number(), 1);
-    assert_eq!(rt; e.transport().target, 0);
-    assert_eq!(rt; carry_out(&mut e, Edit::Locate { to: 5 }), Some(Ok(2)));
-    assert_eq!(rt; other.transport().target, 9);
+    assert!(rt; part(&mut e, &mut other));
     Ok(())
 }

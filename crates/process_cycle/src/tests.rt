@@ -113,13 +113,34 @@ const FIRST: i32 = 3 * 256;
 
 const SECOND: i32 = 4 * 256;
 
-/// A step of a test, with what it has to answer.
+fn piece(track: u32, generation: u32, seq: u32, touched: u32) -> Kind {
+    Kind::Piece {
+        track,
+        generation,
+        seq,
+        touched,
+    }
+}
+
+fn mark(edition: u32, generation: u32, from: u32) -> Kind {
+    Kind::Settled {
+        edition,
+        generation,
+        from,
+    }
+}
+
+/// A step of a run, with what it has to answer.
 #[derive(Clone, Copy)]
 enum Step {
-    Edit(Edit),
-    /// One item for the first track, or for the second.
-    First(Kind),
-    Second(Kind),
+    Roll,
+    Locate(u64),
+    /// A piece for the first track: its generation, its number, and how many edits touched it.
+    Piece(u32, u32, u32),
+    /// A mark for the first track: of an edition, of a generation, from a block on.
+    Mark(u32, u32, u32),
+    /// The first piece of a generation for the second track.
+    Other(u32),
     Close,
     Begin,
     /// After a look: the state that is noted, and what is heard of each track.
@@ -307,9 +328,15 @@ impl Bench {
     // Whether a step was answered as it says.
     fn does(&mut self, alloc: Global, step: Step) -> Result<bool, NoMemory> {
         match step {
-            Step::Edit(edit) => Ok(self.edit(edit)),
-            Step::First(kind) => self.send_first(alloc, kind),
-            Step::Second(kind) => self.send_second(alloc, kind),
+            Step::Roll => Ok(self.edit(Edit::Roll)),
+            Step::Locate(to) => Ok(self.edit(Edit::Locate { to })),
+            Step::Piece(generation, seq, touched) => {
+                self.send_first(alloc, piece(0, generation, seq, touched))
+            }
+            Step::Mark(edition, generation, from) => {
+                self.send_first(alloc, mark(edition, generation, from))
+            }
+            Step::Other(generation) => self.send_second(alloc, piece(1, generation, 0, 0)),
             Step::Begin => Ok(self.begin()),
             Step::Cycle(state, first, second) => {
                 Ok(self.cycle() && self.noted(state, first, second))
@@ -340,165 +367,177 @@ impl Bench {
     }
 }
 
-// A piece of the first track.
-fn piece(generation: u32, seq: u32, touched: u32) -> Kind {
-    Kind::Piece {
-        track: 0,
-        generation,
-        seq,
-        touched,
+/// A run of a new process: the steps, and ten samples of 16 bits of the master, where there are any.
+struct Run {
+    steps: &'static [Step],
+    sound: Option<&'static [u8]>,
+}
+
+const RUNS: [Run; 7] = [
+    // a look is short until each track has its piece
+    Run {
+        steps: &[
+            Step::Look(Look::Ready, 0),
+            Step::Roll,
+            Step::Look(Look::Short, 0),
+            Step::Piece(0, 0, 0),
+            Step::Look(Look::Short, 1),
+            Step::Other(0),
+            Step::Look(Look::Ready, 1),
+        ],
+        sound: None,
+    },
+    // a mark that is not in force is held
+    Run {
+        steps: &[
+            Step::Roll,
+            Step::Mark(1, 0, 1),
+            Step::Piece(0, 0, 0),
+            Step::Other(0),
+            Step::Look(Look::Short, 1),
+            Step::Look(Look::Short, 1),
+            Step::Locate(4),
+            Step::Look(Look::Short, 2),
+        ],
+        sound: None,
+    },
+    // a piece of a newer generation is held until it begins
+    Run {
+        steps: &[
+            Step::Roll,
+            Step::Piece(1, 0, 0),
+            Step::Piece(1, 1, 0),
+            Step::Other(1),
+            Step::Look(Look::Short, 1),
+            Step::Locate(4),
+            Step::Look(Look::Ready, 2),
+        ],
+        sound: None,
+    },
+    // a piece past the depth is held
+    Run {
+        steps: &[
+            Step::Roll,
+            Step::Piece(0, 1, 0),
+            Step::Piece(0, 2, 0),
+            Step::Look(Look::Short, 2),
+            Step::Piece(0, 0, 0),
+            Step::Other(0),
+            Step::Look(Look::Short, 2),
+        ],
+        sound: None,
+    },
+    // a piece of an older generation is dropped
+    Run {
+        steps: &[
+            Step::Roll,
+            Step::Locate(4),
+            Step::Piece(0, 0, 0),
+            Step::Other(1),
+            Step::Look(Look::Short, 1),
+            Step::Piece(1, 0, 2),
+            Step::Look(Look::Ready, 2),
+        ],
+        sound: None,
+    },
+    // a closed ring is known once all was received
+    Run {
+        steps: &[
+            Step::Roll,
+            Step::Piece(0, 0, 0),
+            Step::Close,
+            Step::Closed(false),
+            Step::Look(Look::Short, 1),
+            Step::Closed(true),
+        ],
+        sound: None,
+    },
+    // a process notes and writes what it received
+    Run {
+        steps: &[
+            Step::Begin,
+            Step::Cycle(State::Stopped, Play::Silent, Play::Silent),
+            Step::Roll,
+            Step::Cycle(
+                State::Seeking { track: 0, tail: 0 },
+                Play::Silent,
+                Play::Silent,
+            ),
+            Step::Piece(0, 0, 0),
+            Step::Cycle(
+                State::Seeking { track: 1, tail: 0 },
+                Play::Silent,
+                Play::Silent,
+            ),
+            Step::Other(0),
+            Step::Piece(0, 1, 0),
+            Step::Cycle(
+                State::Rolling {
+                    generation: 0,
+                    seq: 0,
+                },
+                Play::Heard(0),
+                Play::Heard(0),
+            ),
+            Step::Cycle(
+                State::Rolling {
+                    generation: 0,
+                    seq: 1,
+                },
+                Play::Heard(0),
+                Play::Short(1),
+            ),
+            Step::Locate(4),
+            Step::Cycle(
+                State::Seeking { track: 0, tail: 2 },
+                Play::Silent,
+                Play::Silent,
+            ),
+            Step::Piece(1, 0, 2),
+            Step::Other(1),
+            Step::Cycle(
+                State::Rolling {
+                    generation: 1,
+                    seq: 0,
+                },
+                Play::Heard(2),
+                Play::Heard(0),
+            ),
+            Step::Silence,
+        ],
+        sound: Some(&[0, 0, 0, 0, 0, 0, 7, 0, 3, 0, 0, 0, 7, 0, 0, 0, 0, 0, 0, 0]),
+    },
+];
+
+fn master_of(bench: Bench) -> MemSink {
+    bench.process.parts().master
+}
+
+// Whether the master is its header and this sound.
+fn has_sound(master: &MemSink, sound: Option<&[u8]>) -> bool {
+    let bytes = master.bytes();
+    match sound {
+        Some(sound) => bytes.len() == 44 + sound.len() && &bytes[44..] == sound,
+        None => true,
     }
 }
 
-// The first piece of the second track.
-fn other(generation: u32) -> Kind {
-    Kind::Piece {
-        track: 1,
-        generation,
-        seq: 0,
-        touched: 0,
-    }
-}
-
-// The master after these steps, where each was answered as it says.
-fn master_after(alloc: Global, steps: &[Step]) -> Result<Option<MemSink>, Fail> {
+// Whether a new process answers each step as it says, and the master.
+fn played(alloc: Global, steps: &[Step]) -> Result<(bool, MemSink), Fail> {
     let mut bench = Bench::new(alloc)?;
-    if bench.does_all(alloc, steps)?.is_some() {
-        return Ok(None);
+    let right = bench.does_all(alloc, steps) == Ok(None);
+    Ok((right, master_of(bench)))
+}
+
+fn is_right(alloc: Global, run: &Run) -> Result<bool, Fail> {
+    let (right, master) = played(alloc, run.steps)?;
+    Ok(right && has_sound(&master, run.sound))
+}
+
+#[test]
+fn each_step_is_answered_as_it_was_worked_out(rt: HostRuntime) -> Result<(), Fail> {
+    for (at, run) in RUNS.iter().enumerate() {
+        assert!(rt; is_right(rt.alloc(), run)?, "run {at}");
     }
-    let Bench { process, .. } = bench;
-    Ok(Some(process.parts().master))
-}
-
-// Carries the steps out with a new process.
-fn first_wrong(alloc: Global, steps: &[Step]) -> Result<Option<usize>, Fail> {
-    let mut bench = Bench::new(alloc)?;
-    Ok(bench.does_all(alloc, steps)?)
-}
-
-#[test]
-fn a_look_is_short_until_each_track_has_its_piece(rt: HostRuntime) -> Result<(), Fail> {
-    let steps = [
-        Step::Look(Look::Ready, 0),
-        Step::Edit(Edit::Roll),
-        Step::Look(Look::Short, 0),
-        Step::First(piece(0, 0, 0)),
-        Step::Look(Look::Short, 1),
-        Step::Second(other(0)),
-        Step::Look(Look::Ready, 1),
-    ];
-    assert_eq!(rt; first_wrong(rt.alloc(), &steps)?, None);
-    Ok(())
-}
-
-#[test]
-fn a_mark_that_is_not_in_force_is_held(rt: HostRuntime) -> Result<(), Fail> {
-    let mark = Kind::Settled {
-        edition: 1,
-        generation: 0,
-        from: 1,
-    };
-    let steps = [
-        Step::Edit(Edit::Roll),
-        Step::First(mark),
-        Step::First(piece(0, 0, 0)),
-        Step::Second(other(0)),
-        Step::Look(Look::Short, 1),
-        Step::Look(Look::Short, 1),
-        Step::Edit(Edit::Locate { to: 4 }),
-        Step::Look(Look::Short, 2),
-    ];
-    assert_eq!(rt; first_wrong(rt.alloc(), &steps)?, None);
-    Ok(())
-}
-
-#[test]
-fn a_piece_of_a_newer_generation_is_held_until_it_begins(rt: HostRuntime) -> Result<(), Fail> {
-    let steps = [
-        Step::Edit(Edit::Roll),
-        Step::First(piece(1, 0, 0)),
-        Step::First(piece(1, 1, 0)),
-        Step::Second(other(1)),
-        Step::Look(Look::Short, 1),
-        Step::Edit(Edit::Locate { to: 4 }),
-        Step::Look(Look::Ready, 2),
-    ];
-    assert_eq!(rt; first_wrong(rt.alloc(), &steps)?, None);
-    Ok(())
-}
-
-#[test]
-fn a_piece_past_the_depth_is_held(rt: HostRuntime) -> Result<(), Fail> {
-    let steps = [
-        Step::Edit(Edit::Roll),
-        Step::First(piece(0, 1, 0)),
-        Step::First(piece(0, 2, 0)),
-        Step::Look(Look::Short, 2),
-        Step::First(piece(0, 0, 0)),
-        Step::Second(other(0)),
-        Step::Look(Look::Short, 2),
-    ];
-    assert_eq!(rt; first_wrong(rt.alloc(), &steps)?, None);
-    Ok(())
-}
-
-#[test]
-fn a_piece_of_an_older_generation_is_dropped(rt: HostRuntime) -> Result<(), Fail> {
-    let steps = [
-        Step::Edit(Edit::Roll),
-        Step::Edit(Edit::Locate { to: 4 }),
-        Step::First(piece(0, 0, 0)),
-        Step::Second(other(1)),
-        Step::Look(Look::Short, 1),
-        Step::First(piece(1, 0, 2)),
-        Step::Look(Look::Ready, 2),
-    ];
-    assert_eq!(rt; first_wrong(rt.alloc(), &steps)?, None);
-    Ok(())
-}
-
-#[test]
-fn a_closed_ring_is_known_once_all_was_received(rt: HostRuntime) -> Result<(), Fail> {
-    let steps = [
-        Step::Edit(Edit::Roll),
-        Step::First(piece(0, 0, 0)),
-        Step::Close,
-        Step::Closed(false),
-        Step::Look(Look::Short, 1),
-        Step::Closed(true),
-    ];
-    assert_eq!(rt; first_wrong(rt.alloc(), &steps)?, None);
-    Ok(())
-}
-
-#[test]
-fn a_process_notes_and_writes_what_it_received(rt: HostRuntime) -> Result<(), Fail> {
-    let rolling = |generation, seq| State::Rolling { generation, seq };
-    let seeking = |track, tail| State::Seeking { track, tail };
-    let steps = [
-        Step::Begin,
-        Step::Cycle(State::Stopped, Play::Silent, Play::Silent),
-        Step::Edit(Edit::Roll),
-        Step::Cycle(seeking(0, 0), Play::Silent, Play::Silent),
-        Step::First(piece(0, 0, 0)),
-        Step::Cycle(seeking(1, 0), Play::Silent, Play::Silent),
-        Step::Second(other(0)),
-        Step::First(piece(0, 1, 0)),
-        Step::Cycle(rolling(0, 0), Play::Heard(0), Play::Heard(0)),
-        Step::Cycle(rolling(0, 1), Play::Heard(0), Play::Short(1)),
-        Step::Edit(Edit::Locate { to: 4 }),
-        Step::Cycle(seeking(0, 2), Play::Silent, Play::Silent),
-        Step::First(piece(1, 0, 2)),
-        Step::Second(other(1)),
-        Step::Cycle(rolling(1, 0), Play::Heard(2), Play::Heard(0)),
-        Step::Silence,
-    ];
-    let Some(master) = master_after(rt.alloc(), &steps)? else {
-        return Err(Fail::new("a step was answered otherwise"));
-    };
-    // Ten samples of 16 bits after the header.
-    let sound = [0, 0, 0, 0, 0, 0, 7, 0, 3, 0, 0, 0, 7, 0, 0, 0, 0, 0, 0, 0];
-    assert_eq!(rt; master.bytes().len(), 64);
-    assert_eq!(rt; &master.bytes()[44..], sound.as_slice());
     Ok(())
 }

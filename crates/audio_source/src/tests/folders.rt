@@ -1,7 +1,8 @@
 //! A source in a real folder.
-use super::{heard, list, wav};
+use super::{heard, open, wav};
 use crate::Sources;
-use ses_io::{FolderMedia, Media};
+use ses_io::{FolderMedia, Media, NoMemory};
+use std::alloc::Global;
 use std::test::Fail;
 use std::{env, fs, process};
 
@@ -13,26 +14,36 @@ fn make_folder(rt: &HostRuntime) -> Result<String, Fail> {
     Ok(path)
 }
 
-fn open(rt: &HostRuntime, media: &mut FolderMedia<HostRuntime>) -> Result<Sources, Fail> {
-    let file = wav(rt.alloc(), 2, 8, 2, &[129, 130, 131, 132])?;
-    if media.append("a.wav", file.as_slice())? != file.len() {
-        return Err("short".into());
+// Whether a file of two frames is written whole.
+fn is_written(alloc: Global, media: &mut FolderMedia<HostRuntime>) -> Result<bool, NoMemory> {
+    let file = wav(alloc, 2, 8, 2, &[129, 130, 131, 132])?;
+    Ok(media.append("a.wav", &file) == Ok(file.len()))
+}
+
+// Its last frame and what follows, None where it isn't heard.
+fn last_of(sources: &mut Sources, media: &mut FolderMedia<HostRuntime>) -> Option<[i32; 4]> {
+    let mut out = [7; 4];
+    match heard(sources, media, 0, 1, &mut out)? {
+        Ok(()) => Some(out),
+        Err(_) => None,
     }
-    let list = list(rt.alloc(), &[("a.wav", 2)])?;
-    Ok(Sources::new(rt.alloc(), media, &list, 48_000)?)
+}
+
+// The last frame and what follows, of a file that was written into the folder.
+fn last_frame(rt: &HostRuntime, folder: String) -> Result<Option<[i32; 4]>, Fail> {
+    let mut media = FolderMedia::new(*rt, folder);
+    if !is_written(rt.alloc(), &mut media)? {
+        return Ok(None);
+    }
+    let mut sources = open(rt.alloc(), &mut media, &[("a.wav", 2)])?;
+    Ok(last_of(&mut sources, &mut media))
 }
 
 #[test]
 fn a_real_file_is_read(rt: HostRuntime) -> Result<(), Fail> {
     let folder = make_folder(&rt)?;
-    let mut media = FolderMedia::new(rt, folder.clone()?);
-    let mut sources = open(&rt, &mut media)?;
-    let mut out = [7; 4];
-    assert_eq!(rt;
-        heard(&mut sources, &mut media, 0, 1, &mut out),
-        Some(Ok(()))
-    );
-    assert_eq!(rt; out, [196_608, 262_144, 0, 0]);
+    let heard = last_frame(&rt, folder.clone()?)?;
     fs::remove_dir_all(&rt, folder.as_str())?;
+    assert_eq!(rt; heard, Some([196_608, 262_144, 0, 0]));
     Ok(())
 }

@@ -46,27 +46,56 @@ fn region(start: u64, length: u64, at: u64) -> Region
     }
 }
 
-// Eight samples from a frame on; 7 stands where nothing was written.
-fn eight(
-    alloc: Global,
+// The media that holds the file.
+fn media(alloc: Global) -> Result<MemMedia, Fail> {
+    let mut media = MemMedia::new(alloc);
+    media.put("a.wav", FILE.to_vec(alloc)?)?;
+    Ok(media)
+}
+
+fn sources(alloc: Global, media: &mut MemMedia) -> Result<Sources, Fail> {
+    let list = list(alloc)?;
+    Ok(Sources::new(alloc, media, &list, 48_000)?)
+}
+
+// Eight samples from a frame on, None where they aren't read; 7 stands where nothing was written.
+fn eight_of(
+    sources: &mut Sources,
+    media: &mut MemMedia,
     region: &Region,
     transport: &Transport,
     first: u64,
-) -> Result<[i32; 8], Fail>
+) -> Option<[i32; 8]>
     requires limits { IsRegion (region_of region.now) }
     requires plain { is_plain_region (region_of region.now) ≡ true }
     requires transport { IsTransport transport.now }
     requires first { first < 1000 }
 {
-    let mut media = MemMedia::new(alloc);
-    media.put("a.wav", FILE.to_vec(alloc)?)?;
-    let mut sources = Sources::new(alloc, &mut media, &list(alloc)?, 48_000)?;
     if sources.channels(region.source) != Some(1) {
-        return Err("no mono source".into());
+        return None;
     }
     let mut out = [7; 8];
-    runs(&mut sources, &mut media, region, transport, first, &mut out)?;
-    Ok(out)
+    match runs(sources, media, region, transport, first, &mut out) {
+        Ok(()) => Some(out),
+        Err(_) => None,
+    }
+}
+
+// The same by sources of their own.
+fn eight(
+    alloc: Global,
+    region: &Region,
+    transport: &Transport,
+    first: u64,
+) -> Result<Option<[i32; 8]>, Fail>
+    requires limits { IsRegion (region_of region.now) }
+    requires plain { is_plain_region (region_of region.now) ≡ true }
+    requires transport { IsTransport transport.now }
+    requires first { first < 1000 }
+{
+    let mut media = media(alloc)?;
+    let mut sources = sources(alloc, &mut media)?;
+    Ok(eight_of(&mut sources, &mut media, region, transport, first))
 }
 
 #[test]
@@ -76,19 +105,17 @@ fn silence_stands_around_a_region_within_a_block(rt: HostRuntime) -> Result<(), 
         target: 2,
         ..Transport::at_rest()
     };
-    let inside = region(2, 3, 4);
-    let heard = eight(rt.alloc(), &inside, &from_2, 0)?;
-    assert_eq!(rt; heard, [0, 0, 196_608, 262_144, 327_680, 0, 0, 0]);
-    let later = eight(rt.alloc(), &inside, &from_2, 4)?;
-    assert_eq!(rt; later, [327_680, 0, 0, 0, 0, 0, 0, 0]);
+    let heard = eight(rt.alloc(), &region(2, 3, 4), &from_2, 0)?;
+    let later = eight(rt.alloc(), &region(2, 3, 4), &from_2, 4)?;
+    assert!(rt; heard == Some([0, 0, 196_608, 262_144, 327_680, 0, 0, 0]));
+    assert!(rt; later == Some([327_680, 0, 0, 0, 0, 0, 0, 0]));
     Ok(())
 }
 
 #[test]
 fn a_region_past_its_source_is_silent(rt: HostRuntime) -> Result<(), Fail> {
-    let long = region(4, 100, 1);
-    let heard = eight(rt.alloc(), &long, &Transport::at_rest(), 0)?;
-    assert_eq!(rt; heard, [0, 327_680, 393_216, 0, 0, 0, 0, 0]);
+    let heard = eight(rt.alloc(), &region(4, 100, 1), &Transport::at_rest(), 0)?;
+    assert!(rt; heard == Some([0, 327_680, 393_216, 0, 0, 0, 0, 0]));
     Ok(())
 }
 
@@ -101,9 +128,6 @@ fn a_loop_ends_within_a_block(rt: HostRuntime) -> Result<(), Fail> {
         ..Transport::at_rest()
     };
     let heard = eight(rt.alloc(), &region(0, 9, 4), &looped, 1)?;
-    assert_eq!(rt;
-        heard,
-        [65_536, 131_072, 0, 65_536, 131_072, 0, 65_536, 131_072]
-    );
+    assert!(rt; heard == Some([65_536, 131_072, 0, 65_536, 131_072, 0, 65_536, 131_072]));
     Ok(())
 }

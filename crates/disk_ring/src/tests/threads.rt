@@ -3,8 +3,9 @@ ghost use Rattle.std.specs.Prelude.{◌≡◌, true, false};
 
 use super::{Tag, boxed, new_ring};
 use crate::{Full, Nothing, Ring, RingIn, RingOut, rejoin};
+use ses_io::NoMemory;
+use std::alloc::Global;
 use std::sync::Wait;
-use std::test::Fail;
 use std::thread;
 use std::thread::Threads;
 
@@ -172,31 +173,40 @@ fn relay_to_the_end<R: Threads + Wait + Sync>(
     (rejoin(to, from), taken)
 }
 
-#[test]
-fn ten_thousand_items_come_in_order(rt: HostRuntime) -> Result<(), Fail> {
-    let alloc = rt.alloc();
+// How many of so many items came in order over four boxes.
+fn many_in_order<R: Threads + Wait + Sync>(
+    rt: &R,
+    alloc: Global,
+    count: u64,
+) -> Result<u64, NoMemory> {
     let (to, from) = new_ring(alloc, 4)?;
-    let (ring, in_order) = relay(&rt, to, from, boxed(alloc, 0)?, boxed(alloc, 0)?, 10_000);
+    let (ring, in_order) = relay(rt, to, from, boxed(alloc, 0)?, boxed(alloc, 0)?, count);
     ring.facts();
-    assert_eq!(rt; in_order, 10_000);
-    Ok(())
+    Ok(in_order)
 }
 
 #[test]
-fn closed_while_the_consumer_looks(rt: HostRuntime) -> Result<(), Fail> {
-    let alloc = rt.alloc();
-    for count in [0, 1, 100, 3_000] {
-        let (to, from) = new_ring(alloc, 4)?;
-        let (ring, taken) = relay_to_the_end(
-            &rt,
-            to,
-            from,
-            boxed(alloc, 0)?,
-            boxed(alloc, 0)?,
-            count,
-        );
-        ring.facts();
-        assert_eq!(rt; taken, count);
+fn ten_thousand_items_come_in_order(rt: HostRuntime) {
+    assert_eq!(rt; many_in_order(&rt, rt.alloc(), 10_000), Ok(10_000));
+}
+
+// How many of so many items came until the ring was closed.
+fn many_to_the_end<R: Threads + Wait + Sync>(
+    rt: &R,
+    alloc: Global,
+    count: u64,
+) -> Result<u64, NoMemory> {
+    let (to, from) = new_ring(alloc, 4)?;
+    let (ring, taken) = relay_to_the_end(rt, to, from, boxed(alloc, 0)?, boxed(alloc, 0)?, count);
+    ring.facts();
+    Ok(taken)
+}
+
+const COUNTS: [u64; 4] = [0, 1, 100, 3_000];
+
+#[test]
+fn closed_while_the_consumer_looks(rt: HostRuntime) {
+    for count in &COUNTS {
+        assert_eq!(rt; many_to_the_end(&rt, rt.alloc(), *count), Ok(*count));
     }
-    Ok(())
 }

@@ -1,12 +1,12 @@
 //! Real files, and readers and writers of std, as sources and sinks.
-use super::folders::{make_folder, path_in};
 use crate::{
-    Failed, FileSink, FileSource, ReadSource, Sink, Source, WriteSink, read_full, write_all,
+    Failed, FileSink, FileSource, NoMemory, ReadSource, Sink, Source, WriteSink, read_full,
+    write_all,
 };
+use std::io;
 use std::io::{Error, ErrorKind, Read, Write};
-use std::test::Fail;
-use std::{fs, io};
 
+// Writes the text to the file, byte by byte.
 fn write_file(rt: HostRuntime, path: String, bytes: &[u8]) -> Result<(), Failed> {
     let mut sink = FileSink::new(rt, path);
     for byte in bytes {
@@ -22,36 +22,43 @@ fn read_file(rt: HostRuntime, path: String) -> Result<(usize, [u8; 8]), Failed> 
     Ok((n, buf))
 }
 
-#[test]
-fn a_file_is_made_anew_and_read_back(rt: HostRuntime) -> Result<(), Fail> {
-    let folder = make_folder(&rt, "anew")?;
-    let out = path_in(&rt, &folder, "out")?;
-    assert_eq!(rt; read_file(rt, out.clone()?), Ok((0, *b"........")));
-    for (text, held) in [
-        (b"abcde".as_slice(), b"abcde..."),
-        (b"xy".as_slice(), b"xy......"),
-    ] {
-        assert_eq!(rt; write_file(rt, out.clone()?, text), Ok(()));
-        assert_eq!(rt; read_file(rt, out.clone()?), Ok((text.len(), *held)));
-    }
-    fs::remove_dir_all(&rt, folder.as_str())?;
-    Ok(())
+fn is_written(rt: HostRuntime, path: &String, text: &[u8]) -> Result<bool, NoMemory> {
+    Ok(write_file(rt, path.clone()?, text).is_ok())
 }
 
-#[test]
-fn a_folder_is_no_file_to_read_or_write(rt: HostRuntime) -> Result<(), Fail> {
-    let folder = make_folder(&rt, "folder")?;
-    assert_eq!(rt; read_file(rt, folder.clone()?), Err(Failed));
-    assert_eq!(rt; write_file(rt, folder.clone()?, b"a"), Err(Failed));
-    fs::remove_dir_all(&rt, folder.as_str())?;
-    Ok(())
+fn holds(
+    rt: HostRuntime,
+    path: &String,
+    held: Result<(usize, [u8; 8]), Failed>,
+) -> Result<bool, NoMemory> {
+    Ok(read_file(rt, path.clone()?) == held)
 }
 
-/// Is interrupted so often before each byte.
+// Whether the file is made, and then made anew.
+fn is_made(rt: HostRuntime, path: &String) -> Result<bool, NoMemory> {
+    Ok(
+        holds(rt, path, Ok((0, *b"........")))?
+            && is_written(rt, path, b"abcde")?
+            && holds(rt, path, Ok((5, *b"abcde...")))?
+            && is_written(rt, path, b"xy")?
+            && holds(rt, path, Ok((2, *b"xy......")))?,
+    )
+}
+
+/// Whether a file of the folder is made anew and read back, and the folder itself is no file to read or write.
+pub fn serve(rt: HostRuntime, folder: &String) -> Result<bool, NoMemory> {
+    let made = is_made(rt, &format!(in rt.alloc(); "{folder}/out")?)?;
+    let unread = holds(rt, folder, Err(Failed))?;
+    let written = is_written(rt, folder, b"a")?;
+    Ok(made && unread && !written)
+}
+
+/// Is interrupted so often before each byte, and takes no more than so many bytes at once.
 #[derive(Drop)]
 struct Halting {
     times: u8,
     halted: u8,
+    most: usize,
 }
 
 impl Halting {
@@ -83,51 +90,54 @@ impl Write for Halting {
         if self.halts() {
             return Err(Error::from(ErrorKind::Interrupted));
         }
-        Ok(bytes.len().min(1))
+        Ok(bytes.len().min(self.most))
     }
 
     fn flush(&mut self) -> io::Result<()> {
         Ok(())
     }
+}
+
+fn interrupted(times: u8, most: usize) -> Halting {
+    Halting {
+        times,
+        halted: 0,
+        most,
+    }
+}
+
+fn read_two(source: Halting) -> (Result<usize, Failed>, [u8; 2]) {
+    let mut buf = [0u8; 2];
+    let read = read_full(&mut ReadSource::new(source), &mut buf);
+    (read, buf)
+}
+
+fn write_two(sink: Halting) -> Result<(), Failed> {
+    write_all(&mut WriteSink::new(sink), b"ab")
+}
+
+fn is_tried_again() -> bool {
+    read_two(interrupted(3, 1)) == (Ok(2), [7, 7]) && write_two(interrupted(3, 1)) == Ok(())
+}
+
+fn write_once<S: Sink>(sink: &mut S, bytes: &[u8]) -> Result<usize, Failed> {
+    sink.write(bytes)
+}
+
+// Whether a write that takes nothing fails.
+fn fails_at_nothing() -> bool {
+    let mut sink = WriteSink::new(interrupted(0, 0));
+    write_once(&mut sink, b"a") == Err(Failed) && write_once(&mut sink, b"") == Ok(0)
 }
 
 #[test]
 fn an_interrupted_call_is_tried_again(rt: HostRuntime) {
-    let halting = || Halting {
-        times: 3,
-        halted: 0,
-    };
-    let mut buf = [0u8; 2];
-    assert_eq!(rt; read_full(&mut ReadSource::new(halting()), &mut buf), Ok(2));
-    assert_eq!(rt; buf, [7, 7]);
-    assert_eq!(rt; write_all(&mut WriteSink::new(halting()), b"ab"), Ok(()));
-}
-
-/// Takes nothing.
-#[derive(Drop)]
-struct Full;
-
-impl Write for Full {
-    fn write(&mut self, _bytes: &[u8]) -> io::Result<usize> {
-        Ok(0)
-    }
-
-    fn flush(&mut self) -> io::Result<()> {
-        Ok(())
-    }
-}
-
-#[test]
-fn a_write_that_takes_nothing_fails(rt: HostRuntime) {
-    let mut sink = WriteSink::new(Full);
-    assert_eq!(rt; sink.write(b"a"), Err(Failed));
-    assert_eq!(rt; sink.write(b""), Ok(0));
+    assert!(rt; is_tried_again() && fails_at_nothing());
 }
 
 #[test]
 fn the_standard_streams_serve(rt: HostRuntime) {
-    let mut out = WriteSink::new(rt.stdout());
-    assert_eq!(rt; out.write(b""), Ok(0));
-    let mut control = ReadSource::new(rt.stdin());
-    assert_eq!(rt; control.read(&mut []), Ok(0));
+    let written = write_once(&mut WriteSink::new(rt.stdout()), b"");
+    let read = ReadSource::new(rt.stdin()).read(&mut []);
+    assert!(rt; (written, read) == (Ok(0), Ok(0)));
 }

@@ -1,26 +1,59 @@
 //! A list of a fixed room, once.
-use crate::FixedList;
-use std::test::Fail;
+use crate::{FixedList, NoMemory};
+use std::alloc::Global;
 
-#[test]
-fn a_list_fills_to_its_room_and_gives_its_items_back(rt: HostRuntime) -> Result<(), Fail> {
-    let mut list = FixedList::new(rt.alloc(), 2)?;
-    for item in [7u32, 8] {
-        if !list.is_full() {
-            list.push(item);
-        }
+fn push(list: &mut FixedList<u32>, item: u32) {
+    if !list.is_full() {
+        list.push(item);
     }
-    assert!(rt; list.is_full());
+}
+
+fn pop(list: &mut FixedList<u32>) -> Option<u32> {
+    if list.is_empty() {
+        return None;
+    }
+    Some(list.pop())
+}
+
+// Room for two, filled with 7 and 8, of which the first becomes 9.
+fn filled(alloc: Global) -> Result<FixedList<u32>, NoMemory> {
+    let mut list = FixedList::new(alloc, 2)?;
+    push(&mut list, 7);
+    push(&mut list, 8);
     if let [first, ..] = list.as_mut_slice() {
         *first = 9;
     }
-    assert_eq!(rt; list.as_slice(), [9, 8].as_slice());
-    if !list.is_empty() {
-        assert_eq!(rt; list.pop(), 8);
-    }
-    assert_eq!(rt; (list.len(), list.room()), (1, 2));
+    Ok(list)
+}
+
+// Whether a list with room for two holds these.
+fn holds(list: &FixedList<u32>, items: &[u32]) -> bool {
+    list.as_slice() == items
+        && list.is_full() == (items.len() == 2)
+        && (list.len(), list.room()) == (items.len(), 2)
+}
+
+// The list again, of its items.
+fn rebuilt(list: FixedList<u32>) -> Option<FixedList<u32>> {
     let items = list.into_vec();
-    assert_eq!(rt; items.as_slice(), [9].as_slice());
-    assert_eq!(rt; FixedList::from_vec(items).room(), 2);
-    Ok(())
+    if items.len() > 2 {
+        return None;
+    }
+    Some(FixedList::from_vec(items))
+}
+
+fn is_right(alloc: Global) -> Result<bool, NoMemory> {
+    let mut list = filled(alloc)?;
+    let full = holds(&list, &[9, 8]);
+    let popped = pop(&mut list);
+    let rest = holds(&list, &[9]);
+    match rebuilt(list) {
+        Some(again) => Ok(full && popped == Some(8) && rest && holds(&again, &[9])),
+        None => Ok(false),
+    }
+}
+
+#[test]
+fn a_list_fills_to_its_room_and_gives_its_items_back(rt: HostRuntime) {
+    assert_eq!(rt; is_right(rt.alloc()), Ok(true));
 }

@@ -1,22 +1,10 @@
 //! Texts that are read, field by field.
 use crate::session_of;
-use crate::tests::{edited, told};
+use crate::tests::{edited, is_told};
+use ses_io::NoMemory;
 use ses_units::{Bits, Gain, Mode};
-use session_model::{Region, Route, RouteKind, SendLink, Session, Track};
+use session_model::{Region, Route, RouteKind, SendLink, Session, SourceDecl, Track};
 use std::alloc::Global;
-use std::test::Fail;
-
-fn gain(n: u32) -> Result<Gain, Fail> {
-    Ok(Gain::new(n)?)
-}
-
-fn read(alloc: Global, edits: &[(usize, &str)]) -> Result<Session, Fail> {
-    let text = edited(alloc, edits)?;
-    match session_of(alloc, &text) {
-        Ok(session) => Ok(session),
-        Err(_) => Err(Fail::from("refused")),
-    }
-}
 
 // The route, of which nothing but its name, place and target is said.
 fn is_plain(route: &Route, name: &str, kind: RouteKind, target: Option<u32>) -> bool {
@@ -54,83 +42,91 @@ fn is_base_track(track: &Track) -> bool {
         && !track.solo
         && !track.armed
         && track.input == Some(0)
-        && track.list.len() == 1
-        && track.list.regions().iter().all(|r| is_base_region(r))
+        && match track.list.regions() {
+            [region] => is_base_region(region),
+            _ => false,
+        }
 }
 
-#[test]
-fn the_base_text_is_the_base_session(rt: HostRuntime) -> Result<(), Fail> {
-    let session = read(rt.alloc(), &[])?;
-    assert_eq!(rt;
-        (session.rate, session.block, session.depth),
-        (48_000, 4, 2)
-    );
-    assert_eq!(rt; session.bits, Bits::B16);
-    assert_eq!(rt; session.takes.as_str(), "take");
-    assert_eq!(rt; session.sources.len(), 1);
-    for source in session.sources.as_slice() {
-        assert_eq!(rt;
-            (source.name.as_str(), source.file.as_str()),
-            ("a", "a.wav")
-        );
-        assert_eq!(rt; source.channels, 1);
+fn is_base_source(source: &SourceDecl) -> bool {
+    source.name.as_str() == "a" && source.file.as_str() == "a.wav" && source.channels == 1
+}
+
+fn has_base_routes(session: &Session) -> bool {
+    match session.routes.as_slice() {
+        [track, master] => {
+            is_plain(track, "t", RouteKind::Track(0), Some(1))
+                && is_plain(master, "master", RouteKind::Master, None)
+        }
+        _ => false,
     }
-    let [track, master] = session.routes.as_slice() else {
-        return Err(Fail::from("two routes"));
-    };
-    assert!(rt; is_plain(track, "t", RouteKind::Track(0), Some(1)));
-    assert!(rt; is_plain(master, "master", RouteKind::Master, None));
-    assert_eq!(rt; session.tracks.len(), 1);
-    assert!(rt; session.tracks.as_slice().iter().all(|k| is_base_track(k)));
-    Ok(())
 }
 
-const FULL: [(usize, &str); 9] = [
-    (4, "bits = 24"),
-    (5, "channels = 2"),
-    (8, "takes = \"day_1\""),
-    (12, "channels = 2"),
-    (16, "channels = 2"),
-    (17, "input = 6\nsolo = true\narm = true"),
-    (
-        18,
-        "out = \"b\"\ngain = 1\nmute = true\nleft = 2\nright = 3\nmode = \"play\"\nlane = [[5, 6], [7, 8]]\nsend = [{ to = \"master\", pre = true, gain = 9 }, { to = \"c\" }]",
-    ),
-    (
-        23,
-        "at = 10\nstart = 11\nlayer = 12\ngain = 13\nopaque = false\nfade_in = 3\nfade_out = 5",
-    ),
-    (
-        24,
-        "[[bus]]\nname = \"b\"\nchannels = 2\nout = \"c\"\n[[bus]]\nname = \"c\"\nchannels = 2\nmute = true\n[master]\ngain = 20\nmute = true\nmode = \"play\"\nlane = [[0, 21]]",
-    ),
-];
+fn has_base_parts(session: &Session) -> bool {
+    match (session.sources.as_slice(), session.tracks.as_slice()) {
+        ([source], [track]) => is_base_source(source) && is_base_track(track),
+        _ => false,
+    }
+}
 
-fn is_full_track(route: &Route) -> Result<bool, Fail> {
-    let sends = [
-        SendLink {
-            to: 3,
-            pre: true,
-            gain: gain(9)?,
-        },
-        SendLink {
-            to: 2,
-            pre: false,
-            gain: Gain::UNITY,
-        },
-    ];
-    Ok(
-        route.kind == RouteKind::Track(0)
-            && route.channels == 2
-            && route.fader == gain(1)?
-            && route.mode == Mode::Play
-            && route.muted
-            && route.left == gain(2)?
-            && route.right == gain(3)?
-            && route.target == Some(1)
-            && route.sends.as_slice() == sends.as_slice()
-            && route.sends.room() == 8,
-    )
+fn is_base(session: &Session) -> bool {
+    session.rate == 48_000
+        && session.block == 4
+        && session.depth == 2
+        && session.bits == Bits::B16
+        && session.takes.as_str() == "take"
+        && has_base_parts(session)
+        && has_base_routes(session)
+}
+
+const FULL: &str = r#"4:bits = 24
+5:channels = 2
+8:takes = "day_1"
+12:channels = 2
+16:channels = 2
+17:input = 6|solo = true|arm = true
+18:out = "b"|gain = 1|mute = true|left = 2|right = 3|mode = "play"|lane = [[5, 6], [7, 8]]|send = [{ to = "master", pre = true, gain = 9 }, { to = "c" }]
+23:at = 10|start = 11|layer = 12|gain = 13|opaque = false|fade_in = 3|fade_out = 5
+24:[[bus]]|name = "b"|channels = 2|out = "c"|[[bus]]|name = "c"|channels = 2|mute = true|[master]|gain = 20|mute = true|mode = "play"|lane = [[0, 21]]"#;
+
+fn is_send(send: &SendLink, to: u32, pre: bool, gain: u32) -> bool {
+    send.to == to && send.pre == pre && send.gain.value() == gain
+}
+
+fn has_full_sends(route: &Route) -> bool {
+    match route.sends.as_slice() {
+        [first, second] => {
+            is_send(first, 3, true, 9)
+                && is_send(second, 2, false, Gain::UNITY.value())
+                && route.sends.room() == 8
+        }
+        _ => false,
+    }
+}
+
+fn is_full_track(route: &Route) -> bool {
+    route.kind == RouteKind::Track(0)
+        && route.channels == 2
+        && route.fader.value() == 1
+        && route.mode == Mode::Play
+        && route.muted
+        && route.left.value() == 2
+        && route.right.value() == 3
+        && route.target == Some(1)
+        && has_full_sends(route)
+        && has_points(route, &[(5, 6), (7, 8)])
+}
+
+fn is_bus(route: &Route, target: u32, muted: bool) -> bool {
+    route.kind == RouteKind::Bus && route.target == Some(target) && route.muted == muted
+}
+
+fn is_full_master(route: &Route) -> bool {
+    route.kind == RouteKind::Master
+        && route.channels == 2
+        && route.fader.value() == 20
+        && route.muted
+        && has_points(route, &[(0, 21)])
 }
 
 fn has_points(route: &Route, points: &[(u64, u32)]) -> bool {
@@ -142,49 +138,67 @@ fn has_points(route: &Route, points: &[(u64, u32)]) -> bool {
             .all(|(p, (at, gain))| p.at == *at && p.gain.value() == *gain)
 }
 
-#[test]
-fn each_key_is_read(rt: HostRuntime) -> Result<(), Fail> {
-    let session = read(rt.alloc(), &FULL)?;
-    assert_eq!(rt; session.bits, Bits::B24);
-    assert_eq!(rt; session.takes.as_str(), "day_1");
-    let [track, b, c, master] = session.routes.as_slice() else {
-        return Err(Fail::from("four routes"));
-    };
-    assert!(rt; is_full_track(track)?);
-    assert!(rt; has_points(track, &[(5, 6), (7, 8)]));
-    assert_eq!(rt;
-        (b.kind, b.target, b.muted),
-        (RouteKind::Bus, Some(2), false)
-    );
-    assert_eq!(rt;
-        (c.kind, c.target, c.muted),
-        (RouteKind::Bus, Some(3), true)
-    );
-    assert_eq!(rt; (master.kind, master.channels), (RouteKind::Master, 2));
-    assert_eq!(rt; (master.fader.value(), master.muted), (20, true));
-    assert!(rt; has_points(master, &[(0, 21)]));
-    for track in session.tracks.as_slice() {
-        assert_eq!(rt;
-            (track.solo, track.armed, track.input),
-            (true, true, Some(6))
-        );
-        for r in track.list.regions() {
-            assert_eq!(rt;
-                (r.id, r.start, r.length, r.at, r.layer),
-                (1, 11, 8, 10, 12)
-            );
-            assert_eq!(rt;
-                (r.gain.value(), r.opaque, r.fade_in, r.fade_out),
-                (13, false, 3, 5)
-            );
+fn has_full_routes(session: &Session) -> bool {
+    match session.routes.as_slice() {
+        [track, b, c, master] => {
+            is_full_track(track)
+                && is_bus(b, 2, false)
+                && is_bus(c, 3, true)
+                && is_full_master(master)
         }
+        _ => false,
     }
-    Ok(())
+}
+
+fn is_full_region(r: &Region) -> bool {
+    (r.id, r.start, r.length, r.at, r.layer) == (1, 11, 8, 10, 12)
+        && (r.gain.value(), r.opaque, r.fade_in, r.fade_out) == (13, false, 3, 5)
+}
+
+fn has_full_regions(track: &Track) -> bool {
+    track.solo
+        && track.armed
+        && track.input == Some(6)
+        && match track.list.regions() {
+            [region] => is_full_region(region),
+            _ => false,
+        }
+}
+
+fn is_full(session: &Session) -> bool {
+    session.bits == Bits::B24
+        && session.takes.as_str() == "day_1"
+        && has_full_routes(session)
+        && session
+            .tracks
+            .as_slice()
+            .iter()
+            .all(|k| has_full_regions(k))
+}
+
+fn base_is_read(alloc: Global) -> Result<bool, NoMemory> {
+    match session_of(alloc, &edited(alloc, "")?) {
+        Ok(session) => Ok(is_base(&session)),
+        Err(_) => Ok(false),
+    }
+}
+
+fn full_is_read(alloc: Global) -> Result<bool, NoMemory> {
+    match session_of(alloc, &edited(alloc, FULL)?) {
+        Ok(session) => Ok(is_full(&session)),
+        Err(_) => Ok(false),
+    }
+}
+
+#[test]
+fn each_key_is_read(rt: HostRuntime) {
+    let read = (base_is_read(rt.alloc()), full_is_read(rt.alloc()));
+    assert_eq!(rt; read, (Ok(true), Ok(true)));
 }
 
 // ---- as many parts as there may be, and one more
 
-fn write_regions(text: &mut Vec<u8>, alloc: Global, many: u32) -> Result<(), Fail> {
+fn write_regions(text: &mut Vec<u8>, alloc: Global, many: u32) -> Result<(), NoMemory> {
     for id in 1..=many {
         let region = format!(in alloc;
             "[[track.region]]\nid = {id}\nsource = \"s0\"\nstart = 1\nlength = 8\nat = {id}\nlayer = {}\ngain = 7\nopaque = false\nfade_in = 1\nfade_out = 2\n",
@@ -195,7 +209,7 @@ fn write_regions(text: &mut Vec<u8>, alloc: Global, many: u32) -> Result<(), Fai
     Ok(())
 }
 
-fn write_sources(text: &mut Vec<u8>, alloc: Global, many: u32) -> Result<(), Fail> {
+fn write_sources(text: &mut Vec<u8>, alloc: Global, many: u32) -> Result<(), NoMemory> {
     for i in 0..many {
         let source = format!(in alloc;
             "[[source]]\nname = \"s{i}\"\nfile = \"s{i}.wav\"\nchannels = 1\n"
@@ -205,7 +219,12 @@ fn write_sources(text: &mut Vec<u8>, alloc: Global, many: u32) -> Result<(), Fai
     Ok(())
 }
 
-fn write_tracks(text: &mut Vec<u8>, alloc: Global, many: u32, regions: u32) -> Result<(), Fail> {
+fn write_tracks(
+    text: &mut Vec<u8>,
+    alloc: Global,
+    many: u32,
+    regions: u32,
+) -> Result<(), NoMemory> {
     for i in 0..many {
         let track = format!(in alloc; "[[track]]\nname = \"t{i}\"\nchannels = 1\n")?;
         text.extend_from_slice(track.as_bytes())?;
@@ -214,7 +233,7 @@ fn write_tracks(text: &mut Vec<u8>, alloc: Global, many: u32, regions: u32) -> R
     Ok(())
 }
 
-fn write_busses(text: &mut Vec<u8>, alloc: Global, many: u32) -> Result<(), Fail> {
+fn write_busses(text: &mut Vec<u8>, alloc: Global, many: u32) -> Result<(), NoMemory> {
     for i in 0..many {
         let bus = format!(in alloc; "[[bus]]\nname = \"b{i}\"\nchannels = 1\n")?;
         text.extend_from_slice(bus.as_bytes())?;
@@ -223,13 +242,8 @@ fn write_busses(text: &mut Vec<u8>, alloc: Global, many: u32) -> Result<(), Fail
 }
 
 // A text with so many sources, tracks, regions on each, and busses.
-fn text_of(
-    alloc: Global,
-    sources: u32,
-    tracks: u32,
-    regions: u32,
-    busses: u32,
-) -> Result<Vec<u8>, Fail> {
+fn text_of(alloc: Global, many: (u32, u32, u32, u32)) -> Result<Vec<u8>, NoMemory> {
+    let (sources, tracks, regions, busses) = many;
     let mut text = Vec::new(alloc);
     let head =
         "[session]\nversion = 1\nrate = 48000\nbits = 16\nchannels = 1\nblock = 4\ndepth = 2\n";
@@ -240,24 +254,18 @@ fn text_of(
     Ok(text)
 }
 
-#[test]
-fn the_largest_session_is_read(rt: HostRuntime) -> Result<(), Fail> {
-    let text = text_of(rt.alloc(), 64, 32, 256, 31)?;
-    let Ok(session) = session_of(rt.alloc(), &text) else {
-        return Err(Fail::from("refused"));
-    };
-    assert_eq!(rt;
-        (
-            session.sources.len(),
-            session.tracks.len(),
-            session.routes.len()
-        ),
-        (64, 32, 64)
-    );
-    for track in session.tracks.as_slice() {
-        assert!(rt; track.list.is_full());
+fn is_largest(session: &Session) -> bool {
+    session.sources.len() == 64
+        && session.tracks.len() == 32
+        && session.routes.len() == 64
+        && session.tracks.as_slice().iter().all(|k| k.list.is_full())
+}
+
+fn largest_is_read(alloc: Global) -> Result<bool, NoMemory> {
+    match session_of(alloc, &text_of(alloc, (64, 32, 256, 31))?) {
+        Ok(session) => Ok(is_largest(&session)),
+        Err(_) => Ok(false),
     }
-    Ok(())
 }
 
 const LIMITS: [((u32, u32, u32, u32), &str); 6] = [
@@ -269,12 +277,22 @@ const LIMITS: [((u32, u32, u32, u32), &str); 6] = [
     ((0, 0, 0, 63), "ok"),
 ];
 
-#[test]
-fn arrays_have_limits(rt: HostRuntime) -> Result<(), Fail> {
-    for ((sources, tracks, regions, busses), want) in LIMITS {
-        let text = text_of(rt.alloc(), sources, tracks, regions, busses)?;
-        let told = told(rt.alloc(), &text)?;
-        assert_eq!(rt; told.as_str(), want);
+fn is_kept(alloc: Global, many: (u32, u32, u32, u32), want: &str) -> Result<bool, NoMemory> {
+    is_told(alloc, &text_of(alloc, many)?, want)
+}
+
+// The number of the first limit, from 0, that isn't kept.
+fn wrong_limit(alloc: Global) -> Result<Option<usize>, NoMemory> {
+    for (at, (many, want)) in LIMITS.iter().enumerate() {
+        if !is_kept(alloc, *many, want)? {
+            return Ok(Some(at));
+        }
     }
-    Ok(())
+    Ok(None)
+}
+
+#[test]
+fn arrays_have_limits(rt: HostRuntime) {
+    let read = (wrong_limit(rt.alloc()), largest_is_read(rt.alloc()));
+    assert_eq!(rt; read, (Ok(None), Ok(true)));
 }
