@@ -1,0 +1,69 @@
+-- What the answers of several turns say together, and how much is left to do.
+use Rattle.std.proofs.Common.{◌≡◌, ℕ, ◌+◌, ◌-◌, ◌*◌, ◌<◌, ◌≤◌, List, length, refl, sym, ap, subst, ◌∙◌, arith}
+use Rattle.std.specs.Prelude.{Bool, true, false, if◌then◌else◌, is_err, Result, Ok, Err, IfOk, OnOk}
+use Rattle.std.proofs.lemmas.Bool.{true≢false}
+use Rattle.ses_io.specs.Faults.{HasCause}
+use Rattle.disk_ring.specs.Sender.{Sender}
+use Rattle.piece_item.specs.declared.item.Item.{Item}
+use Rattle.butler.specs.declared.turning.Turn.{Turn}
+use Rattle.butler.specs.declared.turning.Turn.TheVariants.{Moved, Idle}
+use Rattle.butler.specs.declared.faults.ButlerFault.{ButlerFault}
+use Rattle.butler.specs.Turns.{total_sent}
+use Rattle.engine_core.specs.Answers.{is_idle, with_fault}
+use Rattle.engine_core.proofs.SendsLemmas.{most}
+
+-- what holds where no turn has failed
+pub ok_on : (did : Result Turn ButlerFault) (before : Result Unit ButlerFault) (A B : Type 0) → OnOk before A → (A → OnOk did B) → OnOk (with_fault did before) B
+ok_on (Ok turn) (Ok u) A B held next = next held
+ok_on (Ok turn) (Err e) A B held next = tt
+ok_on (Err fault) before A B held next = tt
+
+pub ok_then : (did : Result Turn ButlerFault) (P : Turn → Type 0) (B : Type 0) → ((turn : Turn) → P turn → B) → IfOk did P → OnOk did B
+ok_then (Ok turn) P B so holds = so turn holds
+ok_then (Err fault) P B so holds = tt
+
+pub ok_more : (did : Result Turn ButlerFault) (A B : Type 0) → (A → B) → OnOk did A → OnOk did B
+ok_more (Ok turn) A B so holds = so holds
+ok_more (Err fault) A B so holds = tt
+
+pub idle_then : (did : Result Turn ButlerFault) (P : Turn → Type 0) (B : Type 0) → (P Idle → B) → is_idle did ≡ true → IfOk did P → OnOk did B
+idle_then (Ok (Moved n)) P B so idle holds = absurd (true≢false (sym idle))
+idle_then (Ok Idle) P B so idle holds = so holds
+idle_then (Err fault) P B so idle holds = tt
+
+pub no_fault_yet : (reads : ℕ) → HasCause {T = Unit} {E = ButlerFault} reads reads (Ok tt)
+no_fault_yet reads = record { later = omega arith; kept = refl; rose = tt }
+
+pub caused_on : (did : Result Turn ButlerFault) (before : Result Unit ButlerFault) (first mid last : ℕ) → HasCause first mid before → HasCause mid last did → HasCause first last (with_fault did before)
+caused_on (Ok turn) before first mid last was now = subst (λ n. HasCause first n before) (sym now.kept) was
+caused_on (Err fault) before first mid last was now = record { later = omega (arith, was.later, now.later); kept = tt; rose = omega (arith, now.rose, was.later) }
+
+-- ---- how much is left to do, at most: no ring takes more than 2^62 items, and once a read has failed each turn is Idle
+
+abbrev pub left_to_do : List (Sender Item) → Bool → ℕ
+left_to_do sends failed = (length sends * most + 1 - total_sent sends) * 2 + (if failed then 0 else 1)
+
+falls_moved : (all old new : ℕ) (f g : Bool) → old < all → old < new → g ≡ f → (all - new) * 2 + (if g then 0 else 1) < (all - old) * 2 + (if f then 0 else 1)
+falls_moved all old new f g low more same = subst (λ b. (all - new) * 2 + (if b then 0 else 1) < (all - old) * 2 + (if f then 0 else 1)) (sym same) (by f) where
+  by : (b : Bool) → (all - new) * 2 + (if b then 0 else 1) < (all - old) * 2 + (if b then 0 else 1)
+  by true = omega (arith, low, more)
+  by false = omega (arith, low, more)
+
+falls_failed : (all old new : ℕ) (f g : Bool) → old < all → old ≤ new → f ≡ false → g ≡ true → (all - new) * 2 + (if g then 0 else 1) < (all - old) * 2 + (if f then 0 else 1)
+falls_failed all old new true g low more was is = absurd (true≢false was)
+falls_failed all old new false true low more was is = omega (arith, low, more)
+falls_failed all old new false false low more was is = absurd (true≢false (sym is))
+
+not_failed : (f : Bool) (fault : ButlerFault) → (f ≡ true → Err fault ≡ Ok Idle) → f ≡ false
+not_failed true fault quiet = let same = quiet refl in cc
+not_failed false fault quiet = refl
+
+-- a turn that isn't Idle leaves less to do
+pub falls : (did : Result Turn ButlerFault) (old new : List (Sender Item)) (f g : Bool) → is_idle did ≡ false → length new ≡ length old → total_sent old ≤ length old * most →
+    total_sent old ≤ total_sent new → ((n : ℕ) → did ≡ Ok (Moved n) → total_sent old < total_sent new) → g ≡ (if is_err did then true else f) → (f ≡ true → did ≡ Ok Idle) →
+    left_to_do new g < left_to_do old f
+falls (Ok (Moved n)) old new f g busy many small grows more failed quiet = subst (λ l. (l * most + 1 - total_sent new) * 2 + (if g then 0 else 1) < left_to_do old f) (sym many)
+    (falls_moved (length old * most + 1) (total_sent old) (total_sent new) f g (omega (arith, small)) (more n refl) failed)
+falls (Ok Idle) old new f g busy many small grows more failed quiet = absurd (true≢false busy)
+falls (Err fault) old new f g busy many small grows more failed quiet = subst (λ l. (l * most + 1 - total_sent new) * 2 + (if g then 0 else 1) < left_to_do old f) (sym many)
+    (falls_failed (length old * most + 1) (total_sent old) (total_sent new) f g (omega (arith, small)) grows (not_failed f fault quiet) failed)

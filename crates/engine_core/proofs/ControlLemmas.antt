@@ -1,0 +1,92 @@
+-- What the lines of an export come to.
+use Rattle.std.proofs.Common.{◌≡◌, ℕ, List, [], ◌∷◌, ◌++◌, length, refl, sym, ap, subst, ◌∙◌}
+use Rattle.std.specs.Prelude.{Bool, true, false, if◌then◌else◌, is_ok, Option, Some, None, Result, Ok, Err}
+use Rattle.std.proofs.lemmas.Bool.{true≢false}
+use Rattle.session_model.specs.declared.session.Session.{Session}
+use Rattle.session_model.specs.declared.edit.Edit.{Edit}
+use Rattle.session_model.specs.declared.edit.Edit.TheVariants.{Roll, Locate}
+use Rattle.engine_model.specs.Edits.{playlist_edition}
+use Rattle.engine_model.specs.Transport as engine
+use Rattle.engine_model.specs.Transport.{moved}
+use Rattle.engine_model.specs.Editions as engine_editions
+use Rattle.engine_model.specs.Editions.{apply, changed, edition, refusal, unless_refused}
+use Rattle.engine_model.specs.Plain.{Run, accepted, export_commands, plain_from, with_edit, Do}
+use Rattle.edition_log.specs.declared.reason.Refusal.{Refusal}
+use Rattle.edition_log.specs.Reason.{refusal_of}
+use Rattle.edition_log.specs.Seen.{Seen as Edition, IsEditionOf, IsOpen, state_of}
+use Rattle.edition_log.specs.Steps.{Applies, is_built}
+use Rattle.engine_core.specs.Control.{IsControlled, Obeys, edits_after}
+
+-- ---- one line
+
+-- an edit that is built keeps what the transport says of recording and quitting
+keeps_on : (t : engine.Transport) (edit : Edit) → is_built edit ≡ true → ((moved t edit).recording ≡ t.recording) × ((moved t edit).quit ≡ t.quit)
+keeps_on t Roll built = (refl, refl)
+keeps_on t (Locate to) built = (refl, refl)
+keeps_on t _ built = absurd (true≢false (sym built))
+
+was_changed : (o : Option engine_editions.Refusal) (next e : engine_editions.Edition) → unless_refused o next ≡ Ok e → e ≡ next
+was_changed None next e is = cc
+was_changed (Some why) next e is = cc
+
+was_refused : (o : Option engine_editions.Refusal) (why : engine_editions.Refusal) (next : engine_editions.Edition) → o ≡ Some why → is_ok (unless_refused o next) ≡ false
+was_refused None why next is = cc
+was_refused (Some w) why next is = refl
+
+taken : (s : Session) (e : Edition) (edit : Edit) → IsEditionOf s e → is_ok (apply (state_of e) edit) ≡ true → edits_after s e.edits edit ≡ e.edits ++ edit ∷ []
+taken s e edit is ok = ap (λ b. if b then e.edits ++ edit ∷ [] else e.edits) (ap (λ x. is_ok (apply x edit)) (sym is.state) ∙ ok)
+
+not_taken : (s : Session) (e : Edition) (edit : Edit) → IsEditionOf s e → is_ok (apply (state_of e) edit) ≡ false → edits_after s e.edits edit ≡ e.edits
+not_taken s e edit is ok = ap (λ b. if b then e.edits ++ edit ∷ [] else e.edits) (ap (λ x. is_ok (apply x edit)) (sym is.state) ∙ ok)
+
+pub obeyed : (s : Session) (old : Edition) (edit : Edit) (answer : Result ℕ Refusal) (new : Edition) → IsEditionOf s old → IsEditionOf s new → Applies old edit answer new → Obeys s old edit new
+obeyed s old edit (Ok number) new was now step = record { edition_of = now; edits = step.2 ∙ sym (taken s old edit was (ap is_ok step.0)) }
+obeyed s old edit (Err why) new was now step = record {
+  edition_of = now;
+  edits = ap (λ e. e.edits) step.1 ∙ sym (not_taken s old edit was (was_refused (refusal (state_of old) edit) (refusal_of why) (changed (state_of old) edit) step.0));
+}
+
+pub still_open : (old : Edition) (edit : Edit) (answer : Result ℕ Refusal) (new : Edition) → is_built edit ≡ true → IsOpen old → Applies old edit answer new → IsOpen new
+still_open old edit (Ok number) new built open_before step = record {
+  ended = step.3 ∙ open_before.ended;
+  quit = ap (λ e. e.transport.quit) (was_changed (refusal (state_of old) edit) (changed (state_of old) edit) (state_of new) step.0) ∙ (keeps_on (state_of old).transport edit built).1 ∙ open_before.quit;
+}
+still_open old edit (Err why) new built open_before step = subst IsOpen (sym step.1) open_before
+
+pub records_as_before : (old : Edition) (edit : Edit) (answer : Result ℕ Refusal) (new : Edition) → is_built edit ≡ true → Applies old edit answer new → new.transport.recording ≡ old.transport.recording
+records_as_before old edit (Ok number) new built step = ap (λ e. e.transport.recording) (was_changed (refusal (state_of old) edit) (changed (state_of old) edit) (state_of new) step.0)
+    ∙ (keeps_on (state_of old).transport edit built).0
+records_as_before old edit (Err why) new built step = ap (λ e. e.transport.recording) step.1
+
+-- ---- the lines of an export
+
+accepted_is : (s : Session) (cycles from : ℕ) → accepted s cycles (export_commands from) ≡ edits_after s (edits_after s [] (Locate from)) Roll
+accepted_is s cycles from = first (is_ok (apply (edition s [] 0) (Locate from))) where
+  begin : Run
+  begin = record { edits = []; entries = [] }
+
+  second : (r : Run) (b : Bool) → (if b then plain_from s cycles (with_edit r Roll) [] else plain_from s cycles r []).edits ≡ (if b then r.edits ++ Roll ∷ [] else r.edits)
+  second r true = refl
+  second r false = refl
+
+  first : (b : Bool) → (if b then plain_from s cycles (with_edit begin (Locate from)) (Do Roll ∷ []) else plain_from s cycles begin (Do Roll ∷ [])).edits
+      ≡ edits_after s (if b then [] ++ Locate from ∷ [] else []) Roll
+  first true = second (with_edit begin (Locate from)) (is_ok (apply (edition s (Locate from ∷ []) 1) Roll))
+  first false = second begin (is_ok (apply (edition s [] 0) Roll))
+
+untouched : (s : Session) (from t : ℕ) (b c : Bool) → let xs : List Edit = if b then [] ++ Locate from ∷ [] else [] in let ys : List Edit = if c then xs ++ Roll ∷ [] else xs in playlist_edition s ys t (length ys) ≡ 0
+untouched s from t true true = refl
+untouched s from t true false = refl
+untouched s from t false true = refl
+untouched s from t false false = refl
+
+untouched_by_export : (s : Session) (from t : ℕ) → let es = edits_after s (edits_after s [] (Locate from)) Roll in playlist_edition s es t (length es) ≡ 0
+untouched_by_export s from t = let xs = edits_after s [] (Locate from) in untouched s from t (is_ok (apply (edition s [] 0) (Locate from))) (is_ok (apply (edition s xs (length xs)) Roll))
+
+pub controlled : (s : Session) (from : ℕ) (old mid new : Edition) → old.edits ≡ [] → Obeys s old (Locate from) mid → Obeys s mid Roll new → IsControlled s from new
+controlled s from old mid new none one two =
+    let is : new.edits ≡ edits_after s (edits_after s [] (Locate from)) Roll = two.edits ∙ ap (λ es. edits_after s es Roll) (one.edits ∙ ap (λ es. edits_after s es (Locate from)) none) in record {
+      edition_of = two.edition_of;
+      edits = λ cycles. is ∙ sym (accepted_is s cycles from);
+      untouched = λ t. subst (λ es. playlist_edition s es t (length es) ≡ 0) (sym is) (untouched_by_export s from t);
+    }

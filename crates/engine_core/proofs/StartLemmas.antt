@@ -1,0 +1,239 @@
+-- What a run has when it starts.
+use Rattle.std.proofs.Common.{◌≡◌, ℕ, zero, suc, ◌<◌, List, [], ◌∷◌, ◌++◌, length, refl, sym, ap, subst, ◌∙◌, inl, arith}
+use Rattle.std.specs.Prelude.{true, false, map, replicate, reverse, slice_get, slice_index_or, Some}
+use Rattle.std.proofs.lemmas.List.{append-nil, length-map, length-replicate}
+use Rattle.std.proofs.lemmas.Option.{slice_get_within, get_or_from_slice_get, same_Some}
+use Rattle.session_model.specs.declared.session.Session.{Session}
+use Rattle.session_model.specs.declared.edit.Edit.{Edit}
+use Rattle.engine_model.specs.Edits.{generation}
+use Rattle.engine_model.specs.Items.{Kind}
+use Rattle.engine_model.specs.Journal.{rolled}
+use Rattle.engine_model.specs.Order.{is_ordered_newest}
+use Rattle.engine_model.specs.Due.{next_block}
+use Rattle.engine_model.specs.Plain.{plain_cycles}
+use Rattle.engine_laws.specs.Standing.{Standing, Receives}
+use Rattle.engine_laws.specs.SerialLaws.{AreFew, none_is_held}
+use Rattle.engine_laws.specs.TruthLaws.{TruthStands}
+use Rattle.ses_io.specs.FixedList.{Listed}
+use Rattle.audio_source.specs.Opened.{Opened}
+use Rattle.cycle_journal.specs.declared.entry.Entry.{Entry as Noted}
+use Rattle.cycle_journal.specs.Seen.{seen_entries}
+use Rattle.edition_log.specs.Seen.{Seen as Edition, IsEditionOf}
+use Rattle.disk_ring.specs.Sender.{Sender}
+use Rattle.disk_ring.specs.Receiver.{Receiver}
+use Rattle.piece_item.specs.declared.ack.Ack.{Ack}
+use Rattle.piece_item.specs.declared.item.Item.{Item}
+use Rattle.process_cycle.specs.declared.deck.Deck.{Deck}
+use Rattle.process_cycle.specs.declared.ends.ProcessEnds.{ProcessEnds}
+use Rattle.process_cycle.specs.Answers.{AllLook, Keeps}
+use Rattle.process_cycle.specs.Ends.{AreNew, AreOfOneRing, AreOtherEnds, IsNewIn, IsNewOut, block_of}
+use Rattle.process_cycle.specs.Hands.{received_kinds}
+use Rattle.process_cycle.specs.Playing.{IsPlaying, spot_of}
+use Rattle.process_cycle.specs.Seen.{Seen as Process, entries_of}
+use Rattle.butler.specs.Seen.{Seen as Butler}
+use Rattle.butler.specs.Sends.{acks_of, kinds}
+use Rattle.butler.specs.Serving.{IsGiven, IsServing, MayBegin}
+use Rattle.butler.proofs.KeepLemmas.{session_is}
+use Rattle.engine_core.specs.declared.engine.Core.{Core}
+use Rattle.engine_core.specs.declared.serial.Run.{Run}
+use Rattle.engine_core.specs.declared.wiring.Wiring.{Wiring}
+use Rattle.engine_core.specs.Rings.{AreRings, IsRing}
+use Rattle.engine_core.specs.Running.{Runs, IsTrueOfAll, noted, received}
+use Rattle.engine_core.specs.Plainly.{RunsPlainly, HasReceived, IsPlainTrack, generation_now}
+use Rattle.engine_core.specs.Starting.{HasStarted, IsWired, MayStart, no_faults}
+use Rattle.engine_core.proofs.MeetLemmas.{item_at, mapped_at, some_receiver, some_sender}
+
+-- ---- new rings
+
+module _ {T : Type 0} (depth samples : ℕ) (a : Sender T) (b : Receiver T) (is : IsRing depth samples a b) where
+  pub new_out : IsNewOut depth samples b
+  new_out = let new = is.new.receiver in record {
+    depth = ap (λ (z : Receiver T). z.depth) new;
+    room = ap (λ (z : Receiver T). z.room) new ∙ is.room;
+    received = ap (λ (z : Receiver T). z.received) new;
+    ended = ap (λ (z : Receiver T). z.ended) new;
+  }
+
+  pub new_in : IsNewIn depth samples a
+  new_in = let new = is.new.sender in record {
+    depth = ap (λ (z : Sender T). z.depth) new;
+    room = is.room;
+    sent = ap (λ (z : Sender T). z.sent) new;
+    closed = ap (λ (z : Sender T). z.closed) new;
+  }
+
+  one_ring : b.ring ≡ a.ring
+  one_ring = ap (λ (z : Receiver T). z.ring) is.new.receiver
+
+new_rings : {T : Type 0} (s : Session) (many : ℕ) (a : List (Sender T)) (b : List (Receiver T)) → AreRings s many a b → AreOfOneRing a b
+new_rings s many a b all = record {
+  count = all.1 ∙ sym all.0;
+  ring = λ t x y within. one_ring s.depth (block_of s t) (slice_index_or a t x) (slice_index_or b t y) (all.2 t x y (omega (arith, within, all.0)));
+}
+
+module _ (s : Session) (w : Wiring) (wired : IsWired s w) where
+  pub are_new : AreNew s w.process
+  are_new = record {
+    plays = wired.items.1;
+    takes = wired.takes.0;
+    each_play = λ t r within. let a = some_sender r in new_out s.depth (block_of s t) (slice_index_or w.butler.sends.items t a) (slice_index_or w.process.plays.items t r) (wired.items.2 t a r within);
+    each_take = λ t a within. let r = some_receiver a in new_in s.depth (block_of s t) (slice_index_or w.process.takes.items t a) (slice_index_or w.butler.takes.items t r) (wired.takes.2 t a r within);
+    to_butler = new_in s.depth 0 w.process.to_butler w.butler.acks wired.to_butler;
+    to_control = new_in s.depth 0 w.process.to_control w.acks wired.to_control;
+  }
+
+  others : AreOtherEnds w.process w.butler
+  others = record {
+    plays = new_rings s (length s.tracks.items) w.butler.sends.items w.process.plays.items wired.items;
+    takes = new_rings s (length s.tracks.items) w.process.takes.items w.butler.takes.items wired.takes;
+    acks = one_ring s.depth 0 w.process.to_butler w.butler.acks wired.to_butler;
+  }
+
+  sender_at : (t : ℕ) (d : Sender Item) → slice_get w.butler.sends.items t ≡ Some d → IsNewIn s.depth (block_of s t) d
+  sender_at t d here = let r = some_receiver d in let within : t < length s.tracks.items = omega (arith, slice_get_within w.butler.sends.items t d here, wired.items.0) in
+      subst (IsNewIn s.depth (block_of s t)) (get_or_from_slice_get w.butler.sends.items t d d here)
+      (new_in s.depth (block_of s t) (slice_index_or w.butler.sends.items t d) (slice_index_or w.process.plays.items t r) (wired.items.2 t d r within))
+
+  pub may_begin : (e : Edition) (sources : List Opened) (cycles : ℕ) → MayStart s e sources cycles → MayBegin s e sources cycles w.butler
+  may_begin e sources cycles may = let acks = new_out s.depth 0 w.process.to_butler w.butler.acks wired.to_butler in record {
+    plain = may.plain;
+    edition_of = may.edition_of;
+    sources_of = may.listed;
+    some_cycle = may.some_cycle;
+    near = may.near;
+    tracks = wired.items.0;
+    each = λ t d here. let new = sender_at t d here in record { deep = new.depth; wide = new.room; nothing_sent = new.sent; not_closed = new.closed };
+    acks_room = acks.room;
+    none_received = acks.received;
+    not_ended = acks.ended;
+  }
+
+pub wired_for : (s : Session) (e : Edition) (w : Wiring) → IsEditionOf s e → IsWired e.session w → IsWired s w
+wired_for s e w is wired = subst (λ (z : Session). IsWired z w) (session_is s e is) wired
+
+pub playing_for : {W : Type 0} (s : Session) (e : Edition) (p : Process W) → IsEditionOf s e → IsPlaying e.session [] p → IsPlaying s [] p
+playing_for s e p is playing = subst (λ (z : Session). IsPlaying z [] p) (session_is s e is) playing
+
+-- ---- nothing was received when the ends met
+
+nil_at : (n t : ℕ) (xs : List Kind) → slice_get (replicate n []) t ≡ Some xs → xs ≡ []
+nil_at zero t xs here = absurd (omega (arith, slice_get_within (replicate zero []) t xs here))
+nil_at (suc n) zero xs here = sym (same_Some [] xs here)
+nil_at (suc n) (suc t) xs here = nil_at n t xs here
+
+standing_first : (s : Session) (edits : List Edit) → Standing s edits (replicate (length s.tracks.items) []) []
+standing_first s edits = record {
+  lawful = refl;
+  many = length-replicate (length s.tracks.items) [];
+  ordered = λ t xs here. subst (λ l. is_ordered_newest s edits t l ≡ true) (sym (nil_at (length s.tracks.items) t xs here)) refl;
+  stand = tt;
+}
+
+module _ {V W : Type 0} (s : Session) (e : Edition) (sources : List Opened) (cycles : ℕ) (media : V) (master : W) (may : MayStart s e sources cycles) (w : Wiring) (wired : IsWired s w)
+    (b : Butler V) (serving : IsServing s e.edits b) (given : IsGiven media sources cycles w.butler b)
+    (first p : Process W) (first_ends : first.ends ≡ w.process) (first_master : first.master ≡ master) (first_journal : first.journal ≡ record { items = []; room = cycles })
+    (playing : IsPlaying s e.edits p) (keeps : Keeps first p) (looks : AllLook (spot_of p) first.ends.plays.items first.decks p.ends.plays.items p.decks) (first_decks : length first.decks ≡ length s.tracks.items)
+  where
+    abbrev core : Core V W
+    core = record { edition = e; butler = b; process = p; acks = w.acks }
+
+    journal_is : p.journal ≡ record { items = []; room = cycles }
+    journal_is = keeps.journal ∙ first_journal
+
+    plays_many : length p.ends.plays.items ≡ length s.tracks.items
+    plays_many = playing.plays
+
+    first_plays : length first.ends.plays.items ≡ length s.tracks.items
+    first_plays = sym keeps.plays ∙ playing.plays
+
+    same_rings : (t : ℕ) (r : Receiver Item) → t < length s.tracks.items → (slice_index_or p.ends.plays.items t r).ring ≡ (slice_index_or w.process.plays.items t r).ring
+    same_rings t r within = let d = item_at first.decks t (omega (arith, within, first_decks)) in (looks t r d.0 (omega (arith, within, first_plays))).ring.ring
+        ∙ ap (λ (ends : ProcessEnds). (slice_index_or ends.plays.items t r).ring) first_ends
+
+    ends_are : AreOtherEnds p.ends b.ends
+    ends_are = let was = others s w wired in subst (AreOtherEnds p.ends) (sym given.ends_is) (record {
+      plays = record {
+        count = plays_many ∙ sym wired.items.0;
+        ring = λ t x r within. same_rings t r (omega (arith, within, wired.items.0)) ∙ was.plays.ring t x r within;
+      };
+      takes = subst (λ l. AreOfOneRing l.items w.butler.takes.items) (sym (keeps.takes ∙ ap (λ (ends : ProcessEnds). ends.takes) first_ends)) was.takes;
+      acks = was.acks ∙ sym (ap (λ (z : Sender Ack). z.ring) (keeps.to_butler ∙ ap (λ (ends : ProcessEnds). ends.to_butler) first_ends));
+    })
+
+    nothing_noted : noted p ≡ []
+    nothing_noted = ap (λ (j : Listed Noted). seen_entries j.items) journal_is
+
+    no_entries : entries_of p ≡ []
+    no_entries = ap reverse nothing_noted
+
+    receives_first : Receives (replicate (length s.tracks.items) []) (received p)
+    receives_first = record {
+      many = length-map p.ends.plays.items received_kinds ∙ plays_many ∙ sym (length-replicate (length s.tracks.items) []);
+      each = λ t xs ys hx hy. (ys, sym (append-nil ys) ∙ ap (λ l. ys ++ l) (sym (nil_at (length s.tracks.items) t xs hx)));
+    }
+
+    true_first : IsTrueOfAll e.edits s.depth p.ends.plays.items (noted p)
+    true_first = subst (IsTrueOfAll e.edits s.depth p.ends.plays.items) (sym nothing_noted) (λ t r here. record { missing = refl; looked_for = refl; within = refl; none_lost = refl })
+
+    runs : Runs s core
+    runs = record {
+      edition_of = may.edition_of;
+      recording = may.recording;
+      quit = may.quit;
+      serving = serving;
+      playing = playing;
+      ends = ends_are;
+      control = one_ring s.depth 0 w.process.to_control w.acks wired.to_control ∙ sym (ap (λ (z : Sender Ack). z.ring) (keeps.to_control ∙ ap (λ (ends : ProcessEnds). ends.to_control) first_ends));
+      asked = ap (λ (j : Listed Noted). j.room) journal_is ∙ sym given.cycles_is;
+      before = replicate (length s.tracks.items) [];
+      standing = subst (Standing s e.edits (replicate (length s.tracks.items) [])) (sym no_entries) (standing_first s e.edits);
+      receives = receives_first;
+      truth = true_first;
+    }
+
+    new_at : (t : ℕ) (d : Sender Item) → slice_get b.ends.sends.items t ≡ Some d → IsNewIn s.depth (block_of s t) d
+    new_at t d here = sender_at s w wired t d (subst (λ ends. slice_get ends.sends.items t ≡ Some d) given.ends_is here)
+
+    no_acks : p.ends.to_butler.sent ≡ []
+    no_acks = ap (λ (z : Sender Ack). z.sent) (keeps.to_butler ∙ ap (λ (ends : ProcessEnds). ends.to_butler) first_ends) ∙ (new_in s.depth 0 w.process.to_butler w.butler.acks wired.to_butler).sent
+
+    few : (g k : ℕ) → AreFew g k cycles []
+    few g k = record { each_once = omega arith; within = omega arith }
+
+    plain_at : (n t : ℕ) (d : Sender Item) → slice_get b.ends.sends.items t ≡ Some d → IsPlainTrack s e.edits b.cycles n t d
+    plain_at n t d here = let new = new_at t d here in let g = generation e.edits (length e.edits) in record {
+      untouched = may.untouched t;
+      still_open = new.closed;
+      few = subst (λ c. AreFew g (length e.edits) c (reverse (kinds d.sent))) (sym given.cycles_is)
+          (subst (λ l. AreFew g (length e.edits) cycles (reverse (kinds l))) (sym new.sent) (few g (length e.edits)));
+      free = subst (λ l. none_free l) (sym new.sent) refl;
+    } where
+      none_free : List Item → Type 0
+      none_free l = none_is_held s.depth (generation e.edits (length e.edits)) n (reverse (kinds l)) ≡ true
+
+    runs_plainly : RunsPlainly s core
+    runs_plainly = let g = generation_now core in record {
+      runs = runs;
+      entries = no_entries ∙ sym (ap (λ (j : Listed Noted). plain_cycles s e.edits (length j.items) []) journal_is);
+      acknowledged = ap (λ (l : List Ack). length l) no_acks ∙ sym (ap (λ (j : Listed Noted). length j.items) journal_is);
+      next = ap (λ (l : List Ack). next_block (acks_of l) g) no_acks ∙ sym (ap (rolled g) no_entries);
+      tracks = λ t d here. plain_at _ t d here;
+    }
+
+    all_received : HasReceived s core
+    all_received t d r hd hr = inl (r.received, ap (λ l. l ++ r.received) (new_at t d hd).sent)
+
+    pub has_started : HasStarted s e sources cycles media master (record { core = core; faults = no_faults })
+    has_started = record {
+      plain = runs_plainly;
+      all_received = all_received;
+      nothing_sent = λ t d here. (new_at t d here).sent;
+      still_open = λ t d here. (new_at t d here).closed;
+      edition_is = refl;
+      media_is = given.media_is;
+      sources_is = given.sources_is;
+      master_is = keeps.master ∙ first_master;
+      cycles_is = given.cycles_is;
+      journal_is = journal_is;
+      faults_is = refl;
+    }
