@@ -1,0 +1,5 @@
+-- Lemmas of the opening.
+pub mod WordsLaws
+pub mod SourceLaws
+pub mod OpenedLaws
+mod OpenedVectors

@@ -1,0 +1,88 @@
+-- What each answer says of what is opened, and what ties it to the media's count of failed reads.
+use Rattle.std.specs.Prelude.{◌≡◌, ℕ, ◌≤◌, true, false, List, [], slice_get, Option, Some, None, Result, Ok, Err}
+use Rattle.ses_io.specs.Faults.{risen}
+use Rattle.ses_io.specs.Files.{Files}
+use Rattle.session_model.specs.declared.session.SourceDecl.{SourceDecl}
+use Rattle.session_model.specs.Valid.{IsValid}
+use Rattle.engine_model.specs.PlainSession.{is_plain}
+use Rattle.edition_log.specs.Seen.{IsEditionOf}
+use Rattle.session_walk.specs.declared.fault.SessionFault.{SessionFault}
+use Rattle.session_walk.specs.declared.fault.SessionFault.TheVariants as fault
+use Rattle.audio_source.specs.declared.refusal.FileRefusal.{FileRefusal}
+use Rattle.audio_source.specs.Opened.{IsListed, IsOpened}
+use Rattle.audio_source.specs.Refusals.{why_of}
+use Rattle.session_opening.specs.declared.opening.Opening.{Opening}
+use Rattle.session_opening.specs.declared.unopened.Unopened.{Unopened}
+use Rattle.session_opening.specs.declared.unopened.Unopened.TheVariants.{Session, NotBuilt, Source, ReadFault, NoMemory}
+use Rattle.session_opening.specs.declared.reading.Unread.{Unread}
+use Rattle.session_opening.specs.declared.reading.Unread.TheVariants as unread
+use Rattle.session_opening.specs.Opened as opened
+use Rattle.session_opening.specs.Opened.{Open, Opened}
+use Rattle.session_opening.specs.Words.{Export}
+
+-- ---- exactly what is opened
+
+-- a failed read, and want of memory, say nothing of it
+abbrev pub Refuses : {A : Type 0} → Open A → Unopened → Type 0
+Refuses given (Session refusal) = given ≡ Err (opened.SessionRefused refusal)
+Refuses given NotBuilt = given ≡ Err opened.NotBuilt
+Refuses given (Source name why) = given ≡ Err (opened.SourceRefused name (why_of why))
+Refuses given ReadFault = Unit {0}
+Refuses given NoMemory = Unit {0}
+
+-- what is opened, as the code has it, or the first thing that is wrong
+abbrev pub Gives : {A B : Type 0} → (B → A) → Open A → Result B Unopened → Type 0
+Gives view given (Ok b) = given ≡ Ok (view b)
+Gives view given (Err why) = Refuses given why
+
+-- an opening of an export, as the definition has it
+abbrev pub opened_of : Export → Opening → Opened
+opened_of e o = record { session = o.edition.session; from = e.from; cycles = e.cycles }
+
+-- ---- what is opened, for every media
+
+-- Edition 0 of a session that the engine plays, and its sources as they were declared.
+pub record IsPlayed (o : Opening) : Type 0 where
+  -- the state of its session before any edit
+  pub edition : IsEditionOf o.edition.session o.edition
+  pub edits : o.edition.edits ≡ []
+  -- an edit may follow
+  pub ended : o.edition.ended ≡ false
+  pub valid : IsValid o.edition.session
+  -- in the form that is built
+  pub plain : is_plain o.edition.session ≡ true
+  -- each source has the name, the rate and the channels that were declared
+  pub listed : IsListed o.edition.session.rate o.edition.session.sources.items o.sources
+
+-- each source has the head of its file
+abbrev pub HasHeads : Files → Opening → Type 0
+HasHeads files o = IsOpened files o.edition.session.rate o.edition.session.sources.items o.sources
+
+-- ---- refusals
+
+-- the refusal of the source at this place; a place of no source says nothing
+abbrev pub refusal_of : Option SourceDecl → FileRefusal → Unopened
+refusal_of (Some d) why = Source d.name why
+refusal_of None why = NoMemory
+
+abbrev pub refusal_at : List SourceDecl → ℕ → FileRefusal → Unopened
+refusal_at sources place why = refusal_of (slice_get sources place) why
+
+-- ---- causes
+
+-- a failed read is answered only where the count rose; else it stays
+abbrev pub Caused : {A : Type 0} → ℕ → ℕ → Result A Unopened → Type 0
+Caused before now (Ok a) = now ≡ before
+Caused before now (Err ReadFault) = risen before ≤ now
+Caused before now (Err (Session refusal)) = now ≡ before
+Caused before now (Err NotBuilt) = now ≡ before
+Caused before now (Err (Source name why)) = now ≡ before
+Caused before now (Err NoMemory) = now ≡ before
+
+abbrev pub by_read : Unread → Unopened
+by_read unread.Fault = ReadFault
+by_read unread.NoMemory = NoMemory
+
+abbrev pub by_text : SessionFault → Unopened
+by_text (fault.Refused refusal) = Session refusal
+by_text fault.NoMemory = NoMemory

@@ -1,0 +1,42 @@
+-- What holds of all that is opened, and of each refusal.
+use Rattle.std.specs.Prelude.{◌≡◌, ℕ, ◌<◌, true, List, slice_get, Some, IsOk, Ok, Err}
+use Rattle.ses_io.specs.Files.{Files}
+use Rattle.session_model.specs.declared.session.Session.{Session}
+use Rattle.session_model.specs.declared.session.SourceDecl.{SourceDecl}
+use Rattle.session_model.specs.Valid.{IsValid}
+use Rattle.engine_model.specs.PlainSession.{is_plain}
+use Rattle.audio_source.specs.Refusals.{SourceRefusal, source_head}
+use Rattle.session_opening.specs.Opened.{Opened, SourceRefused, opened, session_in}
+use Rattle.session_opening.specs.Words.{Export}
+
+-- What can be played: the session of the export's file, which is valid and plain, and each source's file has its head.
+pub record IsPlayable (files : Files) (e : Export) (o : Opened) : Type 0 where
+  pub session : session_in (files e.session) ≡ Ok o.session
+  pub from : o.from ≡ e.from
+  pub cycles : o.cycles ≡ e.cycles
+  pub valid : IsValid o.session
+  pub plain : is_plain o.session ≡ true
+  pub heads : (i : ℕ) (d : SourceDecl) → slice_get o.session.sources.items i ≡ Some d → IsOk (source_head o.session.rate d.channels (files d.file))
+
+-- what is opened can be played
+abbrev pub OpenedIsPlayable : Type 0
+OpenedIsPlayable = (files : Files) (e : Export) (o : Opened) → opened files e ≡ Ok o → IsPlayable files e o
+
+-- The source at this place has this name, it isn't opened for this reason, and all before it are.
+pub record IsFirst (files : Files) (rate : ℕ) (list : List SourceDecl) (called : List ℕ) (why : SourceRefusal) (place : ℕ) (d : SourceDecl) : Type 0 where
+  pub at : slice_get list place ≡ Some d
+  pub name : d.name ≡ called
+  pub refused : source_head rate d.channels (files d.file) ≡ Err why
+  pub before : (i : ℕ) (q : SourceDecl) → i < place → slice_get list i ≡ Some q → IsOk (source_head rate q.channels (files q.file))
+
+-- A source of this session isn't opened, the first of them.
+pub record FirstOf (files : Files) (e : Export) (name : List ℕ) (why : SourceRefusal) (s : Session) : Type 0 where
+  pub session : session_in (files e.session) ≡ Ok s
+  pub valid : IsValid s
+  pub plain : is_plain s ≡ true
+  pub first : (place : ℕ) × (d : SourceDecl) × IsFirst files s.rate s.sources.items name why place d
+
+-- a source is refused only of a session that is valid and plain, and it is the first
+abbrev pub RefusedIsFirst : Type 0
+RefusedIsFirst = (files : Files) (e : Export) (name : List ℕ) (why : SourceRefusal) → opened files e ≡ Err (SourceRefused name why) →
+    (s : Session) × FirstOf files e name why s

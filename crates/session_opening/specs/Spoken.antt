@@ -1,0 +1,11 @@
+-- The words of an export as the definitions have them.
+use Rattle.std.specs.Prelude.{ℕ, List, [], ◌∷◌}
+use Rattle.session_opening.specs.declared.words.Three.{Three}
+use Rattle.session_opening.specs.declared.words.Export as code
+use Rattle.session_opening.specs.Words.{Export}
+
+abbrev pub three_words : Three → List (List ℕ)
+three_words t = t.session.now ∷ t.from.now ∷ t.cycles.now ∷ []
+
+abbrev pub export_view : code.Export → Export
+export_view e = record { session = e.session.now; from = e.from; cycles = e.cycles }

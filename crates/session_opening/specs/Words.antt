@@ -1,0 +1,70 @@
+-- What the words of the command line mean (own). Words are lists of bytes.
+use Rattle.std.specs.Prelude.{ℕ, ◌+◌, ◌-◌, ◌*◌, Bool, false, ◌&&◌, ◌==◌, nat_le, if◌then◌else◌, List, [], ◌∷◌, length, Option, Some, None, codes, bytes_eq}
+use Rattle.std.specs.Option.{option_map}
+use Rattle.session_model.specs.FileName.{is_file_name}
+
+-- ---- numbers
+
+abbrev pub is_digit : ℕ → Bool
+is_digit b = nat_le 48 b && nat_le b 57
+
+-- what decimal digits stand for, after digits that stand for n
+abbrev pub digits : ℕ → List ℕ → Option ℕ
+digits n [] = Some n
+digits n (b ∷ bs) = if is_digit b then digits (10 * n + (b - 48)) bs else None
+
+-- the number that a word of 1 to 20 decimal digits is
+abbrev pub number : List ℕ → Option ℕ
+number word = if nat_le 1 (length word) && nat_le (length word) 20 then digits 0 word else None
+
+-- a number that lies in a range
+abbrev pub within : ℕ → ℕ → Option ℕ → Option ℕ
+within low high None = None
+within low high (Some n) = if nat_le low n && nat_le n high then Some n else None
+
+-- ---- words
+
+-- a word that begins with `-` and isn't `-` alone
+abbrev pub is_option : List ℕ → Bool
+is_option [] = false
+is_option (b ∷ []) = false
+is_option (b ∷ c ∷ bs) = b == 45
+
+-- The positional words: `--` makes all later words positional. No option is known yet, so each other one is refused.
+unfoldable pub positional : List (List ℕ) → Option (List (List ℕ))
+positional [] = Some []
+positional (w ∷ ws) = if bytes_eq w (codes "--") then Some ws
+    else (if is_option w then None else option_map (λ rest. w ∷ rest) (positional ws))
+
+-- the positional words where there are three
+abbrev pub three : Option (List (List ℕ)) → Option (List (List ℕ))
+three (Some (a ∷ b ∷ c ∷ [])) = Some (a ∷ b ∷ c ∷ [])
+three _ = None
+
+-- ---- commands
+
+-- `export S FROM CYCLES`
+pub record Export : Type 0 where
+  -- the name of the session's file
+  pub session : List ℕ
+  -- the first position, in frames
+  pub from : ℕ
+  pub cycles : ℕ
+
+abbrev pub both_in : List ℕ → Option ℕ → Option ℕ → Option Export
+both_in session None cycles = None
+both_in session (Some from) None = None
+both_in session (Some from) (Some cycles) = Some (record { session = session; from = from; cycles = cycles })
+
+-- a file's name, a position below 2^40, and 1 to 100,000 cycles
+unfoldable pub export_of : List ℕ → List ℕ → List ℕ → Option Export
+export_of session from cycles = if is_file_name session then both_in session (within 0 1099511627775 (number from)) (within 1 100000 (number cycles)) else None
+
+abbrev pub with_words : Option (List (List ℕ)) → Option Export
+with_words (Some (session ∷ from ∷ cycles ∷ [])) = export_of session from cycles
+with_words _ = None
+
+-- the command that the words are
+abbrev pub command : List (List ℕ) → Option Export
+command [] = None
+command (w ∷ ws) = if bytes_eq w (codes "export") then with_words (three (positional ws)) else None

@@ -1,0 +1,16 @@
+//! What the words of the command line and the files of the media open to, or the first thing that is wrong.
+#![tactic(auto)]
+
+mod laws;
+mod opening;
+mod reading;
+mod unopened;
+mod words;
+
+pub use laws::{opened_is_playable, refused_is_first};
+pub use opening::{Opening, open};
+pub use unopened::Unopened;
+pub use words::{Export, command};
+
+#[cfg(test)]
+mod tests;
