@@ -1,11 +1,4 @@
--- Lemmas of the top call, and worked values.
-mod WordsLaws
-mod TableLaws
-mod SmallVectors
-mod SoundLaws
-mod BlockLaws
-mod SourceLaws
-pub mod SmallLaws
-mod PrepareLaws
-mod ExportLaws
-mod RunLaws
+-- The lemmas of the top call.
+pub mod SoundLemmas
+pub mod StatusLemmas
+pub mod PlayedLemmas

@@ -1,21 +1,14 @@
 //! The top call: `run` does all that the program does, over a world of its caller's.
 #![tactic(auto)]
 
-mod export;
-mod laws;
-mod play;
-mod prepare;
-mod reading;
-mod render;
-mod small;
-mod source;
-mod status;
+mod ending;
+mod outcome;
 mod top;
-mod words;
 
-pub use laws::small_sources_are_written;
-pub use status::{FileRefusal, Status};
-pub use top::{Outcome, run};
+pub use audio_source::FileRefusal;
+pub use cycle_journal::{InputRefusal, Status};
+pub use outcome::Outcome;
+pub use top::run;
 
 #[cfg(test)]
 mod tests;

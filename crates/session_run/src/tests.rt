@@ -1,8 +1,10 @@
 //! Worked exports over a world in memory.
 mod exports;
+mod faults;
 mod refusals;
 
-use crate::{Outcome, run};
+use crate::{Outcome, Status, run};
+use cycle_journal::{Entry, Note, Play, State, Take};
 use ses_io::{MemMedia, MemSink, MemSource, World};
 use std::alloc::Global;
 use std::sync::Wait;
@@ -22,42 +24,66 @@ const SOURCE: [u8; 60] = [
     0x2c, 0x01, 0x90, 0x01, 0xf4, 0x01, 0x58, 0x02, 0xbc, 0x02, 0x20, 0x03,
 ];
 
-const HEAD: &str = "[session]\nversion = 1\nrate = 48000\nchannels = 1\nblock = 4\ndepth = 2\n";
+const EXPORT: [&str; 4] = ["export", "s.toml", "0", "2"];
+
+const HEAD: &str = "[session]\nversion = 1\nrate = 48000\nchannels = 1\ndepth = 2\n";
+
+const FORM: &str = "block = 4\nbits = 16\n";
 
 const PARTS: &str =
-    "[[source]]\nname = \"a\"\nfile = \"a.wav\"\nchannels = 1\n\n[[track]]\nname = \"t\"\nchannels = 1\ninput = 0\n\n[[track.region]]\nid = 1\nsource = \"a\"\n";
+    "[[source]]\nname = \"a\"\nfile = \"a.wav\"\nchannels = 1\n\n[[track]]\nname = \"t\"\nchannels = 1\ninput = 0\n";
 
-const BITS: &str = "bits = 16\n\n";
+const REGION: &str = "[[track.region]]\nid = 1\nsource = \"a\"\nlength = 8\nat = 0\n";
 
-const REGION: &str = "length = 8\nat = 0\n";
+const HEARD: Note = Note {
+    play: Play::Heard(0),
+    take: Take::Off,
+};
 
-fn copied(rt: &HostRuntime, bytes: &[u8]) -> Result<Vec<u8>, Fail> {
-    let mut copy = Vec::new(rt.alloc());
-    copy.extend_from_slice(bytes)?;
-    Ok(copy)
+const ROLLS: [State; 2] = [
+    State::Rolling {
+        generation: 1,
+        seq: 0,
+    },
+    State::Rolling {
+        generation: 1,
+        seq: 1,
+    },
+];
+
+const SILENT: Note = Note {
+    play: Play::Silent,
+    take: Take::Off,
+};
+
+fn joined(alloc: Global, parts: &[&[u8]]) -> Result<Vec<u8>, Fail> {
+    let mut whole = Vec::new(alloc);
+    for part in parts {
+        whole.extend_from_slice(part)?;
+    }
+    Ok(whole)
 }
 
-// A session with these bits, and its region with these keys.
-fn session(rt: &HostRuntime, bits: &str, region: &str) -> Result<Vec<u8>, Fail> {
-    let mut text = Vec::new(rt.alloc());
-    for part in [HEAD, bits, PARTS, region] {
+// A media with this session and no source.
+fn bare(alloc: Global, session: &[&str]) -> Result<MemMedia, Fail> {
+    let mut text = Vec::new(alloc);
+    for part in session {
         text.extend_from_slice(part.as_bytes())?;
     }
-    Ok(text)
-}
-
-// A media with that session.
-fn media(rt: &HostRuntime, bits: &str, region: &str) -> Result<MemMedia, Fail> {
-    let mut media = MemMedia::new(rt.alloc());
-    media.put("s.toml", session(rt, bits, region)?)?;
+    let mut media = MemMedia::new(alloc);
+    media.put("s.toml", text)?;
     Ok(media)
 }
 
-// The same with the source's file.
-fn whole_media(rt: &HostRuntime, bits: &str, region: &str) -> Result<MemMedia, Fail> {
-    let mut media = media(rt, bits, region)?;
-    media.put("a.wav", copied(rt, &SOURCE)?)?;
+// A media with the base session, whose region has these keys, and this source.
+fn with(alloc: Global, region: &str, source: &[&[u8]]) -> Result<MemMedia, Fail> {
+    let mut media = bare(alloc, &[HEAD, FORM, PARTS, region])?;
+    media.put("a.wav", joined(alloc, source)?)?;
     Ok(media)
+}
+
+fn base(alloc: Global) -> Result<MemMedia, Fail> {
+    with(alloc, REGION, &[&SOURCE])
 }
 
 fn world(alloc: Global, media: MemMedia, bad_writes: Vec<u64>) -> Memory {
@@ -70,7 +96,62 @@ fn world(alloc: Global, media: MemMedia, bad_writes: Vec<u64>) -> Memory {
     }
 }
 
-// The run of some words over that media, of which no write fails.
-fn ran<R: Threads + Wait + Sync>(rt: &R, alloc: Global, words: &[&str], media: MemMedia) -> Ended {
-    run(rt, alloc, words, world(alloc, media, Vec::new(alloc)))
+// What a run leaves: its status with its number, its master, and the states of its cycles, each with these notes.
+#[derive(Drop)]
+struct Row<'a> {
+    status: Status,
+    number: u8,
+    master: &'a [u8],
+    states: &'a [State],
+    notes: &'a [Note],
+}
+
+// Whether an entry is edition 2 settled as 2 with this state and these notes.
+fn entry_is(entry: &Entry, state: &State, notes: &[Note]) -> bool {
+    (entry.edition, entry.settled) == (2, 2)
+        && entry.state == *state
+        && entry.notes.as_slice() == notes
+}
+
+// Whether these are the entries of the row.
+fn entries_are(entries: &[Entry], row: &Row<'_>) -> bool {
+    let mut same = entries.len() == row.states.len();
+    for (entry, state) in entries.iter().zip(row.states) {
+        same = same && entry_is(entry, state, row.notes);
+    }
+    same
+}
+
+fn leaves(ended: &Ended, row: &Row<'_>) -> bool {
+    let told = ended.status == row.status && ended.status.number() == row.number;
+    let silent = ended.world.out.bytes().is_empty();
+    let played = match &ended.journal {
+        None => row.states.is_empty(),
+        Some(journal) => entries_are(journal.entries(), row),
+    };
+    told && silent && played && ended.world.master.bytes() == row.master
+}
+
+// Whether a run of some words over that media, of which these writes fail, leaves that.
+fn runs<R>(
+    rt: &R,
+    alloc: Global,
+    words: &[&str],
+    media: MemMedia,
+    bad_writes: Vec<u64>,
+    row: &Row<'_>,
+) -> bool
+where
+    R: Threads + Wait + Sync,
+{
+    let ended = run(rt, alloc, words, world(alloc, media, bad_writes));
+    leaves(&ended, row)
+}
+
+// The same, where no write fails.
+fn ran<R>(rt: &R, alloc: Global, words: &[&str], media: MemMedia, row: &Row<'_>) -> bool
+where
+    R: Threads + Wait + Sync,
+{
+    runs(rt, alloc, words, media, Vec::new(alloc), row)
 }

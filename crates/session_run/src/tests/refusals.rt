@@ -1,91 +1,95 @@
-//! Runs that are refused, and runs whose outside fails.
-use crate::tests::{BITS, Ended, REGION, SOURCE, media, ran, whole_media, world};
-use crate::{FileRefusal, Status, run};
+//! Runs that are refused.
+use crate::tests::{EXPORT, FORM, HEAD, PARTS, REGION, Row, SOURCE, bare, base, ran, with};
+use crate::{FileRefusal, Status};
 use ses_io::MemMedia;
 use ses_units::Name;
-use session_model::SessionRefusal;
+use session_model::{Key, Part, Place, SessionRefusal};
+use std::alloc::Global;
 use std::test::Fail;
+use wav_codec::WavRefusal;
 
-const EXPORT: [&str; 4] = ["export", "s.toml", "0", "2"];
-
-fn absent_source(name: &str) -> Option<Status> {
-    let name = Name::new(name).ok()?;
-    Some(Status::SourceFile(name, FileRefusal::Absent))
+// A run that plays nothing.
+fn refused(status: Status, number: u8) -> Row<'static> {
+    Row {
+        status,
+        number,
+        master: &[],
+        states: &[],
+        notes: &[],
+    }
 }
 
-fn is_silent(ended: &Ended) -> bool {
-    ended.world.master.bytes().is_empty()
+// The base session in another form, without its source.
+fn in_form(alloc: Global, form: &str) -> Result<MemMedia, Fail> {
+    bare(alloc, &[HEAD, form, PARTS, REGION])
+}
+
+// The refusal of source a.
+fn refused_source(why: FileRefusal) -> Row<'static> {
+    match Name::new("a") {
+        Err(_) => refused(Status::Done, 0),
+        Ok(name) => refused(Status::SourceFile(name, why), 3),
+    }
 }
 
 #[test]
 fn two_words_are_no_command(rt: HostRuntime) -> Result<(), Fail> {
-    for words in [["play", "s.toml"], ["export", "s.toml"]] {
-        let ended = ran(&rt, rt.alloc(), &words, whole_media(&rt, BITS, REGION)?);
-        assert_eq!(rt; (ended.status, ended.status.number()), (Status::Usage, 1));
-        assert!(rt; is_silent(&ended));
-    }
+    let media = base(rt.alloc())?;
+    let row = refused(Status::Usage, 1);
+    assert!(rt; ran(&rt, rt.alloc(), &["export", "s.toml"], media, &row));
     Ok(())
 }
 
 #[test]
 fn a_session_of_24_bits_is_not_built(rt: HostRuntime) -> Result<(), Fail> {
-    let ended = ran(
-        &rt,
-        rt.alloc(),
-        &EXPORT,
-        whole_media(&rt, "bits = 24\n\n", REGION)?,
-    );
-    assert_eq!(rt;
-        (ended.status, ended.status.number()),
-        (Status::NotBuilt, 20)
-    );
-    assert!(rt; is_silent(&ended));
+    let media = in_form(rt.alloc(), "block = 4\nbits = 24\n")?;
+    let row = refused(Status::NotBuilt, 20);
+    assert!(rt; ran(&rt, rt.alloc(), &EXPORT, media, &row));
     Ok(())
 }
 
 #[test]
 fn an_absent_session_is_named(rt: HostRuntime) -> Result<(), Fail> {
-    let ended = ran(&rt, rt.alloc(), &EXPORT, MemMedia::new(rt.alloc()));
-    let absent = Status::Session(SessionRefusal::Absent);
-    assert_eq!(rt; (ended.status, ended.status.number()), (absent, 2));
+    let media = MemMedia::new(rt.alloc());
+    let row = refused(Status::Session(SessionRefusal::Absent), 2);
+    assert!(rt; ran(&rt, rt.alloc(), &EXPORT, media, &row));
+    Ok(())
+}
+
+#[test]
+fn a_block_of_no_frames_is_out_of_range(rt: HostRuntime) -> Result<(), Fail> {
+    let media = in_form(rt.alloc(), "block = 0\nbits = 16\n")?;
+    let place = Place {
+        part: Part::Session,
+        row: 1,
+        item: 0,
+    };
+    let row = refused(Status::Session(SessionRefusal::Range(place, Key::Block)), 2);
+    assert!(rt; ran(&rt, rt.alloc(), &EXPORT, media, &row));
     Ok(())
 }
 
 #[test]
 fn an_absent_source_is_named(rt: HostRuntime) -> Result<(), Fail> {
-    let ended = ran(&rt, rt.alloc(), &EXPORT, media(&rt, BITS, REGION)?);
-    assert_eq!(rt; Some(ended.status), absent_source("a"));
-    assert_eq!(rt; ended.status.number(), 3);
-    assert!(rt; is_silent(&ended));
+    let media = in_form(rt.alloc(), FORM)?;
+    let row = refused_source(FileRefusal::Absent);
+    assert!(rt; ran(&rt, rt.alloc(), &EXPORT, media, &row));
     Ok(())
 }
 
 #[test]
-fn a_read_that_fails_is_a_fault(rt: HostRuntime) -> Result<(), Fail> {
-    let mut media = whole_media(&rt, BITS, REGION)?;
-    media.fail_reads("a.wav", 0)?;
-    let ended = ran(&rt, rt.alloc(), &EXPORT, media);
-    assert_eq!(rt;
-        (ended.status, ended.status.number()),
-        (Status::ReadFault, 4)
-    );
-    assert!(rt; is_silent(&ended));
+fn a_source_cut_short_is_named_with_its_counts(rt: HostRuntime) -> Result<(), Fail> {
+    let media = with(rt.alloc(), REGION, &[&SOURCE[..54]])?;
+    let row = refused_source(FileRefusal::Wav(WavRefusal::Truncated { want: 16, have: 10 }));
+    assert!(rt; ran(&rt, rt.alloc(), &EXPORT, media, &row));
     Ok(())
 }
 
 #[test]
-fn a_write_that_fails_leaves_the_front(rt: HostRuntime) -> Result<(), Fail> {
-    let alloc = rt.alloc();
-    let world = world(
-        alloc,
-        whole_media(&rt, BITS, REGION)?,
-        vec![in alloc; 3u64]?,
-    );
-    let ended = run(&rt, alloc, &EXPORT, world);
-    assert_eq!(rt;
-        (ended.status, ended.status.number()),
-        (Status::MasterFault, 7)
-    );
-    assert_eq!(rt; ended.world.master.bytes(), &SOURCE[..52]);
+fn a_source_of_floats_is_named_with_its_tag(rt: HostRuntime) -> Result<(), Fail> {
+    let parts: [&[u8]; 3] = [&SOURCE[..20], &[3], &SOURCE[21..]];
+    let media = with(rt.alloc(), REGION, &parts)?;
+    let row = refused_source(FileRefusal::Wav(WavRefusal::Format(3)));
+    assert!(rt; ran(&rt, rt.alloc(), &EXPORT, media, &row));
     Ok(())
 }

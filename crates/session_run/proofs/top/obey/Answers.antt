@@ -1,21 +1,44 @@
--- The plan of the words is the one that was played, where they are a command.
-use Rattle.std.proofs.Common.{inl, refl, sym, subst, map, None, Some}
-use Rattle.session_run.specs.Spoken.{export_view}
-use Rattle.session_run.specs.Status.{EndsWith, MasterIs}
-use Rattle.session_run.specs.declared.status.Status.TheVariants.{Usage}
-use Rattle.session_run.proofs.RunLaws.{plan_is}
+use Rattle.std.proofs.Common.{refl, sym, subst, ap, inl, inr, ◌∙◌, ◌≡◌}
+use Rattle.std.specs.Prelude.{Result, Ok, Err, map}
+use Rattle.cycle_journal.specs.declared.status.Status.{Status}
+use Rattle.cycle_journal.specs.declared.status.Status.TheVariants.{Done, Usage, MasterFault, ReadFault}
+use Rattle.session_opening.specs.Opened.{NoCommand, Opened, Wrong, opened, opened_by, opened_for}
+use Rattle.session_opening.specs.Spoken.{export_view}
+use Rattle.session_opening.specs.Words as spec
+use Rattle.session_run.specs.Does.{Does}
+use Rattle.session_run.specs.Headline.{IsOfSome, PlaysSome}
+use Rattle.session_run.specs.Status.{EndsWith}
+use Rattle.session_run.proofs.PlayedLemmas as plays
+use Rattle.session_run.proofs.StatusLemmas as status
 use Rattle.session_run.proofs.top.obey.Goals as goal
 
-pub returns-in-None-clause-told : goal.returns-in-None-clause-told
-returns-in-None-clause-told g c = λ t.
-    subst (λ p. EndsWith p Usage) (sym (plan_is (g.M.Media.files c.args.media.now) (map (λ w. w.now) c.args.words.now) None c.in-None.ensures.value)) (inl refl)
+usage_done : Usage ≡ Done → ⊥
+usage_done is = cc
 
-pub returns-in-Some-clause-told : goal.returns-in-Some-clause-told
-returns-in-Some-clause-told g c = λ t.
-    subst (λ p. EndsWith p c.played.result)
-    (sym (plan_is (g.M.Media.files c.args.media.now) (map (λ w. w.now) c.args.words.now) (Some (export_view c.in-Some.wanted)) c.in-Some.ensures.value)) (c.played.ensures.told t)
+usage_master : Usage ≡ MasterFault → ⊥
+usage_master is = cc
 
-pub returns-in-Some-clause-master : goal.returns-in-Some-clause-master
-returns-in-Some-clause-master g c = λ t u.
-    subst (λ p. MasterIs (g.W.Sink.held c.args.master.now) (g.W.Sink.held c.played.new.master) p c.played.result)
-    (sym (plan_is (g.M.Media.files c.args.media.now) (map (λ w. w.now) c.args.words.now) (Some (export_view c.in-Some.wanted)) c.in-Some.ensures.value)) (c.played.ensures.master t u)
+usage_read : Usage ≡ ReadFault → ⊥
+usage_read is = cc
+
+-- src/top.rt
+pub returns-in-None-clause-does : goal.returns-in-None-clause-does
+unfolding opened_by
+returns-in-None-clause-does g c = let M = g.M.Media in let W = g.W.Sink in let a = c.args in let o = c.unplayed.ensures in let plan = opened_by (M.files a.world.media) (map (λ w. w.now) a.words.now) in
+    let is : plan ≡ Err NoCommand = ap (opened_for (M.files a.world.media)) (sym c.in-None.ensures.value) in
+    plays.idle M.tells M.files M.read_faults M.write_faults W.tells W.held W.faults plan Usage a.world a.world a.world.media (λ t. subst (λ (p : Result Opened Wrong). EndsWith p Usage) (sym is) (inl refl))
+    (inr (inl refl)) usage_done usage_master (status.quiet (M.read_faults a.world.media) (M.read_faults a.world.media) Usage refl usage_read) refl refl refl c.unplayed.result o.status o.world o.journal o.rings o.acks
+
+pub returns-in-Some-clause-does : goal.returns-in-Some-clause-does
+unfolding opened_by
+returns-in-Some-clause-does g c = let M = g.M.Media in let W = g.W.Sink in let a = c.args in let view = export_view c.in-Some.export in let plan = opened_by (M.files a.world.media) (map (λ w. w.now) a.words.now) in
+    let is : opened (M.files a.world.media) view ≡ plan = ap (opened_for (M.files a.world.media)) c.in-Some.ensures.value in
+    subst (λ (p : Result Opened Wrong). Does M.tells M.files M.read_faults M.write_faults W.tells W.held W.faults p a.world c.play.result) is c.play.ensures.does
+
+pub returns-in-None-clause-alone : goal.returns-in-None-clause-alone
+returns-in-None-clause-alone g c = let W = g.W.Sink in let a = c.args in let new = c.unplayed.result in plays.none_played (spec.command (map (λ w. w.now) a.words.now)) new.journal
+    (λ e. IsOfSome e new.status new.rings.items (W.faults a.world.master) (W.faults new.world.master)) c.unplayed.ensures.journal
+
+pub returns-in-Some-clause-alone : goal.returns-in-Some-clause-alone
+returns-in-Some-clause-alone g c = let W = g.W.Sink in let a = c.args in let new = c.play.result in
+    subst (λ e. PlaysSome e new.journal (λ x. IsOfSome x new.status new.rings.items (W.faults a.world.master) (W.faults new.world.master))) c.in-Some.ensures.value c.play.ensures.alone

@@ -1,6 +1,0 @@
--- What the table's map finds at the key is the member there.
-use Rattle.toml.proofs.Views.{table_get}
-use Rattle.session_run.proofs.small.value_at.Goals as goal
-
-pub returns : goal.returns
-returns c = table_get c.get.result c.args.key.now c.args.table.now.entries c.get.ensures.value

@@ -1,0 +1,45 @@
+//! Which status a run ends with.
+ghost use Rattle.std.specs.Prelude.{◌≡◌};
+ghost use Rattle.session_run.specs.Status.{status_of, status_at_end};
+
+use cycle_journal::Status;
+use engine_core::Faults;
+use session_opening::Unopened;
+
+/// The status of an export that isn't played.
+pub(crate) fn status_of(why: Unopened) -> Status
+    ensures { result ≡ status_of why }
+{
+    match why {
+        Unopened::Session(refusal) => Status::Session(refusal),
+        Unopened::NotBuilt => Status::NotBuilt,
+        Unopened::Source(name, why) => Status::SourceFile(name, why),
+        Unopened::ReadFault => Status::ReadFault,
+        Unopened::NoMemory => Status::NoMemory,
+    }
+}
+
+/// The status of a run in which this failed: of several faults the first in this order.
+pub(crate) fn status_at_end(faults: &Faults) -> Status
+    ensures { result ≡ status_at_end faults.now }
+{
+    if faults.memory {
+        Status::NoMemory
+    } else if faults.input {
+        Status::InputFault
+    } else if faults.master {
+        Status::MasterFault
+    } else if faults.read {
+        Status::ReadFault
+    } else if faults.write {
+        Status::WriteFault
+    } else if faults.control {
+        Status::ControlFault
+    } else if faults.long {
+        Status::ControlTooLong
+    } else if faults.out {
+        Status::OutFault
+    } else {
+        Status::Done
+    }
+}
