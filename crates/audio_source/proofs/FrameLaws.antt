@@ -12,7 +12,7 @@ use Rattle.sound_model.specs.Wav.{Head, Refusal, align, head, file_sound, sound}
 use Rattle.ses_io.specs.Files.{Files, content}
 use Rattle.session_model.specs.Frames.{sample_of}
 use Rattle.audio_source.specs.Refusals.{NoFile, NotRead, OtherRate, OtherChannels, fitting, fitting_read, source_head}
-use Rattle.audio_source.specs.Opened.{Opened}
+use Rattle.audio_source.specs.Opened.{OpenedSource}
 use Rattle.audio_source.specs.Told.{sample_by, told_by}
 use Rattle.audio_source.specs.Laws.{FramesAreTheFiles, ListsHoldTheFrames}
 
@@ -94,7 +94,7 @@ frames_are_the_files files rate list opened s d i c is at = go (slice_get_cases 
     here : s < length opened
     here = let inside = slice_get_within list s d at in omega (arith, is.many)
 
-    held : (o : Opened) → slice_get opened s ≡ Some o → sample_by files (Some o) i c ≡ file_sound (content files d.file) i c
+    held : (o : OpenedSource) → slice_get opened s ≡ Some o → sample_by files (Some o) i c ≡ file_sound (content files d.file) i c
     held o there =
         let opened_as = is.each s d o at there in
         let found = opened_head rate d.channels (files d.file) o.head opened_as.head in
@@ -102,7 +102,7 @@ frames_are_the_files files rate list opened s d i c is at = go (slice_get_cases 
         let named : content files o.file ≡ found.0 = ap (content files) opened_as.file ∙ bytes in
         ap (λ b. sound o.head b i c) named ∙ sound_of_file found.0 o.head i c found.2 ∙ ap (λ b. file_sound b i c) (sym bytes)
 
-    go : ((o : Opened) × (s < length opened) × (slice_get opened s ≡ Some o) × (get_or opened s o ≡ o)) ⊎ ((length opened ≤ s) × (slice_get opened s ≡ None)) →
+    go : ((o : OpenedSource) × (s < length opened) × (slice_get opened s ≡ Some o) × (get_or opened s o ≡ o)) ⊎ ((length opened ≤ s) × (slice_get opened s ≡ None)) →
         sample_by files (slice_get opened s) i c ≡ file_sound (content files d.file) i c
     go (inl w) = ap (λ o. sample_by files o i c) w.2 ∙ held w.0 w.2
     go (inr w) = absurd (omega (arith, w.0, here))
@@ -112,7 +112,7 @@ frames_are_the_files files rate list opened s d i c is at = go (slice_get_cases 
 no_sample : (c : ℕ) → get_or [] c (pos 0) ≡ pos 0
 no_sample c = refl
 
-told_sample : (files : Files) (o : Opened) (i c : ℕ) → sample_of (told_by files o) i c ≡ sample_by files (Some o) i c
+told_sample : (files : Files) (o : OpenedSource) (i c : ℕ) → sample_of (told_by files o) i c ≡ sample_by files (Some o) i c
 told_sample files o i c = go (cases_lt i o.head.frames) (cases_lt c o.head.form.channels)
   where
     go : (i < o.head.frames) ⊎ (o.head.frames ≤ i) → (c < o.head.form.channels) ⊎ (o.head.form.channels ≤ c) → sample_of (told_by files o) i c ≡ sample_by files (Some o) i c
@@ -136,7 +136,7 @@ told_sample files o i c = go (cases_lt i o.head.frames) (cases_lt c o.head.form.
 pub lists_hold_the_frames : ListsHoldTheFrames
 lists_hold_the_frames files opened s i c = go (slice_get_cases opened s).1
   where
-    go : ((o : Opened) × (s < length opened) × (slice_get opened s ≡ Some o) × (get_or opened s o ≡ o)) ⊎ ((length opened ≤ s) × (slice_get opened s ≡ None)) →
+    go : ((o : OpenedSource) × (s < length opened) × (slice_get opened s ≡ Some o) × (get_or opened s o ≡ o)) ⊎ ((length opened ≤ s) × (slice_get opened s ≡ None)) →
         sample_of (get_or (map (told_by files) opened) s []) i c ≡ sample_by files (slice_get opened s) i c
     go (inl w) = ap (λ f. sample_of f i c) (get_or-map (told_by files) opened s w.0 [] w.1 ∙ ap (told_by files) w.3)
         ∙ told_sample files w.0 i c ∙ ap (λ o. sample_by files o i c) (sym w.2)

@@ -12,7 +12,7 @@ use Rattle.audio_source.specs.declared.refusal.FileRefusal.{FileRefusal}
 use Rattle.audio_source.specs.declared.refusal.OpenRefusal.{OpenRefusal}
 use Rattle.audio_source.specs.declared.refusal.OpenRefusal.TheVariants.{File, ReadFault, NoMemory}
 use Rattle.audio_source.specs.Answers.{IsFirstRefused, NamesFirst, IsRefusalOf}
-use Rattle.audio_source.specs.Opened.{Opened, ArePaired, IsOpened}
+use Rattle.audio_source.specs.Opened.{OpenedSource, ArePaired, IsOpened}
 use Rattle.audio_source.specs.Refusals.{SourceRefusal, source_head, why_of}
 
 take_get : {X : Type 0} (xs : List X) (i : ℕ) (x : X) → slice_get xs i ≡ Some x → take (i + 1) xs ≡ take i xs ++ x ∷ []
@@ -67,7 +67,7 @@ pub paired_all : {X Y : Type 0} (P : X → Y → Type 0) (xs : List X) (ys : Lis
 paired_all {X} {Y} P xs ys i pairs all = let K : List X → Type 0 = λ l. ArePaired P l ys in subst K (take_all i xs all) pairs
 
 -- a refusal after as many opened sources
-pub first_refused : (files : Files) (rate : ℕ) (list : List SourceDecl) (opened : List Opened) (i : ℕ) (d : SourceDecl) (why : FileRefusal) → IsOpened files rate (take i list) opened →
+pub first_refused : (files : Files) (rate : ℕ) (list : List SourceDecl) (opened : List OpenedSource) (i : ℕ) (d : SourceDecl) (why : FileRefusal) → IsOpened files rate (take i list) opened →
     slice_get list i ≡ Some d → source_head rate d.channels (files d.file) ≡ Err (why_of why) → IsFirstRefused files rate list i why
 first_refused files rate list opened i d why is at shown = record {
   refused = refused (slice_get list i) at;
@@ -89,12 +89,12 @@ first_refused files rate list opened i d why is at shown = record {
     is_ok : (r : Result Head SourceRefusal) (h : Head) → r ≡ Ok h → IsOk r
     is_ok r h e = let K : Result Head SourceRefusal → Type 0 = λ s. IsOk s in subst K (sym e) (search rules)
 
-    ok : (j : ℕ) (q : SourceDecl) → j < i → slice_get list j ≡ Some q → ((o : Opened) × (j < length opened) × (slice_get opened j ≡ Some o) × (get_or opened j o ≡ o)) ⊎ ((length opened ≤ j) × (slice_get opened j ≡ None)) →
+    ok : (j : ℕ) (q : SourceDecl) → j < i → slice_get list j ≡ Some q → ((o : OpenedSource) × (j < length opened) × (slice_get opened j ≡ Some o) × (get_or opened j o ≡ o)) ⊎ ((length opened ≤ j) × (slice_get opened j ≡ None)) →
         IsOk (source_head rate q.channels (files q.file))
     ok j q before there (inl w) = let as_opened = is.each j q w.0 (taken i j list before ∙ there) w.2 in is_ok (source_head rate q.channels (files q.file)) w.0.head as_opened.head
     ok j q before there (inr w) = absurd (omega (arith, inside, w.0, is.many, length-take-le i list (omega (arith, inside))))
 
-pub names_first : (files : Files) (rate : ℕ) (list : List SourceDecl) (opened : List Opened) (i : ℕ) (d : SourceDecl) (r : OpenRefusal) → IsOpened files rate (take i list) opened →
+pub names_first : (files : Files) (rate : ℕ) (list : List SourceDecl) (opened : List OpenedSource) (i : ℕ) (d : SourceDecl) (r : OpenRefusal) → IsOpened files rate (take i list) opened →
     slice_get list i ≡ Some d → IsRefusalOf files rate d i r → NamesFirst files rate list r
 names_first files rate list opened i d (File source why) is at shown =
     let K : ℕ → Type 0 = λ j. IsFirstRefused files rate list j why in subst K (sym shown.0) (first_refused files rate list opened i d why is at shown.1)

@@ -4,14 +4,14 @@ use Rattle.sound_model.specs.Wav.{file_sound}
 use Rattle.ses_io.specs.Files.{Files, content}
 use Rattle.session_model.specs.declared.session.SourceDecl.{SourceDecl}
 use Rattle.session_model.specs.Frames.{sounds_of}
-use Rattle.audio_source.specs.Opened.{Opened, IsOpened}
+use Rattle.audio_source.specs.Opened.{OpenedSource, IsOpened}
 use Rattle.audio_source.specs.Told.{source_sound, all_told}
 
 -- where the files are those that were opened
 abbrev pub FramesAreTheFiles : Type 0
-FramesAreTheFiles = (files : Files) (rate : ℕ) (list : List SourceDecl) (opened : List Opened) (s : ℕ) (d : SourceDecl) (i c : ℕ) →
+FramesAreTheFiles = (files : Files) (rate : ℕ) (list : List SourceDecl) (opened : List OpenedSource) (s : ℕ) (d : SourceDecl) (i c : ℕ) →
     IsOpened files rate list opened → slice_get list s ≡ Some d → source_sound files opened s i c ≡ file_sound (content files d.file) i c
 
 -- the lists of frames hold the same samples
 abbrev pub ListsHoldTheFrames : Type 0
-ListsHoldTheFrames = (files : Files) (opened : List Opened) (s i c : ℕ) → sounds_of (all_told files opened) s i c ≡ source_sound files opened s i c
+ListsHoldTheFrames = (files : Files) (opened : List OpenedSource) (s i c : ℕ) → sounds_of (all_told files opened) s i c ≡ source_sound files opened s i c

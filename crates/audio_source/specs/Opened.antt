@@ -14,15 +14,15 @@ pub record Fits (frames_a_second many : ℕ) (info : WavInfo) : Type 0 where
   pub channels : info.channels ≡ many
 
 -- the name of a file, and the head that it had
-pub record Opened : Type 0 where
+pub record OpenedSource : Type 0 where
   pub file : List ℕ
   pub head : Head
 
-abbrev pub opened_of : Entry → Opened
-opened_of e = record { file = e.file; head = head_of e.info }
+abbrev pub opened_source : Entry → OpenedSource
+opened_source e = record { file = e.file; head = head_of e.info }
 
 -- the channels of each source
-abbrev pub channels_of : List Opened → List ℕ
+abbrev pub channels_of : List OpenedSource → List ℕ
 channels_of opened = map (λ o. o.head.form.channels) opened
 
 -- two lists of one length, whose items at each place go together
@@ -31,22 +31,22 @@ pub record ArePaired {X Y : Type 0} (P : X → Y → Type 0) (xs : List X) (ys :
   pub each : (i : ℕ) (x : X) (y : Y) → slice_get xs i ≡ Some x → slice_get ys i ≡ Some y → P x y
 
 -- A source as it was declared.
-pub record IsListedAs (frames_a_second : ℕ) (d : SourceDecl) (o : Opened) : Type 0 where
+pub record IsListedAs (frames_a_second : ℕ) (d : SourceDecl) (o : OpenedSource) : Type 0 where
   pub file : o.file ≡ d.file
   pub rate : o.head.form.rate ≡ frames_a_second
   pub channels : o.head.form.channels ≡ d.channels
 
 -- each source has the name and the channels that were declared, and the session's rate
-abbrev pub IsListed : ℕ → List SourceDecl → List Opened → Type 0
+abbrev pub IsListed : ℕ → List SourceDecl → List OpenedSource → Type 0
 IsListed rate list opened = ArePaired (IsListedAs rate) list opened
 
 -- A source as its file is.
-pub record IsOpenedAs (files : Files) (rate : ℕ) (d : SourceDecl) (o : Opened) : Type 0 where
+pub record IsOpenedAs (files : Files) (rate : ℕ) (d : SourceDecl) (o : OpenedSource) : Type 0 where
   pub file : o.file ≡ d.file
   pub head : source_head rate d.channels (files d.file) ≡ Ok o.head
 
 -- each source has the head of its file
-abbrev pub IsOpened : Files → ℕ → List SourceDecl → List Opened → Type 0
+abbrev pub IsOpened : Files → ℕ → List SourceDecl → List OpenedSource → Type 0
 IsOpened files rate list opened = ArePaired (IsOpenedAs files rate) list opened
 
 -- A source that can be read, with a buffer for 4,096 of its frames.

@@ -2,13 +2,13 @@
 ghost use Rattle.std.specs.Prelude.{◌≡◌, ◌≢◌, ◌^◌, ◌<◌, length, true, None, IfOk};
 ghost use Rattle.sound_model.specs.Wav.{head};
 ghost use Rattle.ses_io.specs.Files.{content};
+ghost use Rattle.ses_io.specs.Outside.{OnlyReads};
 ghost use Rattle.wav_codec.specs.Info.{IsFound};
 ghost use Rattle.wav_codec.specs.Progress.{Agrees, wanted_at};
 ghost use Rattle.audio_source.specs.Answers.{TellsHead, HeadCause};
 ghost use Rattle.audio_source.specs.Steps.{TellsStep, IfGoesOn, IfEnds};
 
-use crate::reading::fill;
-use ses_io::{Failed, Media};
+use ses_io::{Failed, Media, read_at_full};
 use wav_codec::{Scan, Step, WavInfo, WavRefusal};
 
 /// Why the head of a file isn't read.
@@ -38,15 +38,14 @@ fn step<M: Media>(media: &mut M, name: &str, scan: Scan) -> Result<Step, Unread>
     ensures rises { IfGoesOn result (λ next. wanted_at scan < wanted_at next) }
     ensures bound { wanted_at scan < 2 ^ 33 }
     ensures found { IfEnds result IsFound }
-    ensures told { M.tells → Agrees scan (content (M.files media.old) name.now)
-        → TellsStep (content (M.files media.old) name.now) result }
-    ensures files { M.files media.new ≡ M.files media.old }
-    ensures cause { HeadCause (M.read_faults media.old) (M.read_faults media.new) result }
-    ensures other_count { M.write_faults media.new ≡ M.write_faults media.old }
+    ensures told { M.outside.tells → Agrees scan (content (M.outside.files media.old) name.now)
+        → TellsStep (content (M.outside.files media.old) name.now) result }
+    ensures only_reads { OnlyReads M.outside media.old media.new }
+    ensures cause { HeadCause (M.outside.read_faults media.old) (M.outside.read_faults media.new) result }
 {
     let want = scan.want();
     let mut piece = [0; 16];
-    let read = fill(media, name, want.at, &mut piece[..want.length as usize])?;
+    let read = read_at_full(media, name, want.at, &mut piece[..want.length as usize])?;
     match scan.give(&piece[..read]) {
         Ok(next) => Ok(next),
         Err(refusal) => Err(Unread::Refused(refusal)),
@@ -55,12 +54,12 @@ fn step<M: Media>(media: &mut M, name: &str, scan: Scan) -> Result<Step, Unread>
 
 /// What the head of the file says, whose size was told.
 pub(crate) fn scanned<M: Media>(media: &mut M, name: &str, size: u64) -> Result<WavInfo, Unread>
-    requires { M.tells → length (content (M.files media.old) name.now) ≡ size }
+    requires { M.outside.tells → length (content (M.outside.files media.old) name.now) ≡ size }
     ensures found { IfOk result IsFound }
-    ensures told { M.tells → TellsHead (head true (content (M.files media.old) name.now)) result }
-    ensures files { M.files media.new ≡ M.files media.old }
-    ensures cause { HeadCause (M.read_faults media.old) (M.read_faults media.new) result }
-    ensures other_count { M.write_faults media.new ≡ M.write_faults media.old }
+    ensures told { M.outside.tells
+        → TellsHead (head true (content (M.outside.files media.old) name.now)) result }
+    ensures only_reads { OnlyReads M.outside media.old media.new }
+    ensures cause { HeadCause (M.outside.read_faults media.old) (M.outside.read_faults media.new) result }
 {
     let mut scan = Scan::new(Some(size));
     loop {

@@ -5,7 +5,6 @@ mod entry;
 mod heading;
 mod laws;
 mod opening;
-mod reading;
 mod refusal;
 mod sources;
 mod span;
@@ -16,6 +15,3 @@ pub use laws::{frames_are_the_files, lists_hold_the_frames};
 pub use refusal::{FileRefusal, OpenRefusal, ReadFault};
 pub use sources::Sources;
 pub use view::SourceView;
-
-#[cfg(test)]
-mod tests;

@@ -5,6 +5,7 @@ ghost use Rattle.wav_codec.specs.Info.{head_of, IsFound};
 ghost use Rattle.audio_source.specs.Answers.{TellsSource, SourceCause, TellsFitting};
 ghost use Rattle.audio_source.specs.Opened.{Fits};
 ghost use Rattle.audio_source.specs.Refusals.{source_head, fitting};
+ghost use Rattle.ses_io.specs.Outside.{OnlyReads};
 
 use crate::heading::{Unread, scanned};
 use crate::refusal::FileRefusal;
@@ -74,11 +75,10 @@ pub(crate) fn opened<M: Media>(
 ) -> Result<WavInfo, Unopened>
     ensures found { IfOk result IsFound }
     ensures fits { IfOk result (Fits rate channels) }
-    ensures told { M.tells
-        → TellsSource (source_head rate channels (M.files media.old name.now)) result }
-    ensures files { M.files media.new ≡ M.files media.old }
-    ensures cause { SourceCause (M.read_faults media.old) (M.read_faults media.new) result }
-    ensures other_count { M.write_faults media.new ≡ M.write_faults media.old }
+    ensures told { M.outside.tells
+        → TellsSource (source_head rate channels (M.outside.files media.old name.now)) result }
+    ensures only_reads { OnlyReads M.outside media.old media.new }
+    ensures cause { SourceCause (M.outside.read_faults media.old) (M.outside.read_faults media.new) result }
 {
     let Some(size) = media.size(name)? else {
         return Err(Unopened::Refused(FileRefusal::Absent));

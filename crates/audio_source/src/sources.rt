@@ -2,9 +2,10 @@
 ghost use Rattle.std.specs.Prelude.{◌≡◌, ◌%◌, ◌<◌, ◌≤◌, length, map, slice_index, IfOk, IfErr, OnOk, SomeIff, All};
 ghost use Rattle.wav_codec.specs.Info.{IsFound};
 ghost use Rattle.ses_io.specs.Faults.{HasCause};
+ghost use Rattle.ses_io.specs.Outside.{OnlyReads};
 ghost use Rattle.session_model.specs.Frames.{interleaved, IsSample};
 ghost use Rattle.audio_source.specs.Answers.{NamesFirst, IsRefusalOf, OpenCause};
-ghost use Rattle.audio_source.specs.Opened.{opened_of, channels_of, IsListedAs, IsListed, IsOpenedAs, IsOpened};
+ghost use Rattle.audio_source.specs.Opened.{opened_source, channels_of, IsListedAs, IsListed, IsOpenedAs, IsOpened};
 ghost use Rattle.audio_source.specs.Told.{source_sound};
 
 use crate::entry::Entry;
@@ -16,7 +17,7 @@ use session_model::{FileName, SourceDecl, SourceList};
 use std::alloc::Global;
 use std::marker::Model;
 
-/// Opened sources. Contracts see the name of each file and the head that it had.
+/// OpenedSource sources. Contracts see the name of each file and the head that it had.
 #[derive(Drop)]
 pub struct Sources {
     entries: Vec<Entry>,
@@ -26,11 +27,11 @@ pub struct Sources {
 
 impl Model for Sources {
     ghost use Rattle.std.specs.Prelude.{List, map, All, vec_len};
-    ghost use Rattle.audio_source.specs.Opened.{Opened, opened_of, IsReadable};
+    ghost use Rattle.audio_source.specs.Opened.{OpenedSource, opened_source, IsReadable};
 
-    ghost Value = { List Opened };
+    ghost Value = { List OpenedSource };
 
-    ghost view = { λ s. map opened_of s.entries.items };
+    ghost view = { λ s. map opened_source s.entries.items };
 
     ghost invariant = { λ s. All (IsReadable (vec_len s.buffer)) s.entries.items };
 }
@@ -44,12 +45,13 @@ fn entry_of<M: Media>(
     rate: u32,
 ) -> Result<Entry, OpenRefusal>
     ensures found { IfOk result (λ e. IsFound e.info) }
-    ensures listed { IfOk result (λ e. IsListedAs rate d.now (opened_of e)) }
-    ensures told { M.tells → IfOk result (λ e. IsOpenedAs (M.files media.old) rate d.now (opened_of e)) }
-    ensures refused { M.tells → IfErr result (IsRefusalOf (M.files media.old) rate d.now source) }
-    ensures files { M.files media.new ≡ M.files media.old }
-    ensures cause { OpenCause (M.read_faults media.old) (M.read_faults media.new) result }
-    ensures other_count { M.write_faults media.new ≡ M.write_faults media.old }
+    ensures listed { IfOk result (λ e. IsListedAs rate d.now (opened_source e)) }
+    ensures told { M.outside.tells
+        → IfOk result (λ e. IsOpenedAs (M.outside.files media.old) rate d.now (opened_source e)) }
+    ensures refused { M.outside.tells
+        → IfErr result (IsRefusalOf (M.outside.files media.old) rate d.now source) }
+    ensures only_reads { OnlyReads M.outside media.old media.new }
+    ensures cause { OpenCause (M.outside.read_faults media.old) (M.outside.read_faults media.new) result }
 {
     let Ok(file) = FileName::new(alloc, d.file.as_str()) else {
         return Err(OpenRefusal::NoMemory);
@@ -69,14 +71,13 @@ fn all_entries<M: Media>(
     rate: u32,
 ) -> Result<Vec<Entry>, OpenRefusal>
     ensures found { IfOk result (λ v. All (λ e. IsFound e.info) v.items) }
-    ensures listed { IfOk result (λ v. IsListed rate list.now.items (map opened_of v.items)) }
-    ensures told { M.tells → IfOk result
-        (λ v. IsOpened (M.files media.old) rate list.now.items (map opened_of v.items)) }
-    ensures refused { M.tells → IfErr result
-        (NamesFirst (M.files media.old) rate list.now.items) }
-    ensures files { M.files media.new ≡ M.files media.old }
-    ensures cause { OpenCause (M.read_faults media.old) (M.read_faults media.new) result }
-    ensures other_count { M.write_faults media.new ≡ M.write_faults media.old }
+    ensures listed { IfOk result (λ v. IsListed rate list.now.items (map opened_source v.items)) }
+    ensures told { M.outside.tells → IfOk result
+        (λ v. IsOpened (M.outside.files media.old) rate list.now.items (map opened_source v.items)) }
+    ensures refused { M.outside.tells → IfErr result
+        (NamesFirst (M.outside.files media.old) rate list.now.items) }
+    ensures only_reads { OnlyReads M.outside media.old media.new }
+    ensures cause { OpenCause (M.outside.read_faults media.old) (M.outside.read_faults media.new) result }
 {
     let mut entries = Vec::new(alloc);
     let decls = list.as_slice();
@@ -110,13 +111,12 @@ impl Sources {
         rate: u32,
     ) -> Result<Sources, OpenRefusal>
         ensures listed { IfOk result (IsListed rate list.now.items) }
-        ensures told { M.tells
-            → IfOk result (IsOpened (M.files media.old) rate list.now.items) }
-        ensures refused { M.tells
-            → IfErr result (NamesFirst (M.files media.old) rate list.now.items) }
-        ensures files { M.files media.new ≡ M.files media.old }
-        ensures cause { OpenCause (M.read_faults media.old) (M.read_faults media.new) result }
-        ensures other_count { M.write_faults media.new ≡ M.write_faults media.old }
+        ensures told { M.outside.tells
+            → IfOk result (IsOpened (M.outside.files media.old) rate list.now.items) }
+        ensures refused { M.outside.tells
+            → IfErr result (NamesFirst (M.outside.files media.old) rate list.now.items) }
+        ensures only_reads { OnlyReads M.outside media.old media.new }
+        ensures cause { OpenCause (M.outside.read_faults media.old) (M.outside.read_faults media.new) result }
     {
         let entries = all_entries(alloc, media, list, rate)?;
         let room = 12_288 * usize::from(widest(&entries));
@@ -147,14 +147,13 @@ impl Sources {
     ) -> Result<(), ReadFault>
         requires source { source < length self.old }
         requires whole { length out.old % slice_index (channels_of self.old) source ≡ 0 }
-        ensures told { M.tells → OnOk result (out.new ≡ interleaved
-            (source_sound (M.files media.old) self.old source)
+        ensures told { M.outside.tells → OnOk result (out.new ≡ interleaved
+            (source_sound (M.outside.files media.old) self.old source)
             (slice_index (channels_of self.old) source) from (length out.new)) }
         ensures range { OnOk result (All IsSample out.new) }
         ensures sources { self.new ≡ self.old }
-        ensures files { M.files media.new ≡ M.files media.old }
-        ensures cause { HasCause (M.read_faults media.old) (M.read_faults media.new) result }
-        ensures other_count { M.write_faults media.new ≡ M.write_faults media.old }
+        ensures only_reads { OnlyReads M.outside media.old media.new }
+        ensures cause { HasCause (M.outside.read_faults media.old) (M.outside.read_faults media.new) result }
     {
         let entry = &self.entries[source as usize];
         read_frames(media, entry, self.buffer.as_mut_slice(), from, out)?;

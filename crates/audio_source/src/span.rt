@@ -2,6 +2,7 @@
 ghost use Rattle.std.specs.Prelude.{◌≡◌, ◌+◌, ◌-◌, ◌*◌, ◌/◌, ◌%◌, ◌<◌, ◌≤◌, ◌++◌, pos, length, take, drop, replicate, min, IfOk, OnOk, All};
 ghost use Rattle.sound_model.specs.Wav.{sound};
 ghost use Rattle.ses_io.specs.Faults.{HasCause};
+ghost use Rattle.ses_io.specs.Outside.{OnlyReads};
 ghost use Rattle.ses_io.specs.Files.{content};
 ghost use Rattle.wav_codec.specs.Info.{head_of, IsFound};
 ghost use Rattle.wav_codec.specs.Samples.{samples_of};
@@ -9,8 +10,7 @@ ghost use Rattle.session_model.specs.Frames.{interleaved, IsSample};
 ghost use Rattle.audio_source.specs.Spans.{IsPieceAt};
 
 use crate::entry::Entry;
-use crate::reading::fill;
-use ses_io::{Failed, Media};
+use ses_io::{Failed, Media, read_at_full};
 use wav_codec::{WavInfo, decode};
 
 fn silence(out: &mut [i32])
@@ -49,15 +49,14 @@ fn fetch<M: Media>(
     requires whole { length buf.old % (info.now.channels * (info.now.bits / 8)) ≡ 0 }
     ensures bound { IfOk result (λ n. n ≤ length buf.new) }
     ensures whole { IfOk result (λ n. n % (info.now.channels * (info.now.bits / 8)) ≡ 0) }
-    ensures told { M.tells → IfOk result
-        (IsPieceAt (head_of info.now) (content (M.files media.old) name.now) from buf.new) }
-    ensures files { M.files media.new ≡ M.files media.old }
-    ensures cause { HasCause (M.read_faults media.old) (M.read_faults media.new) result }
-    ensures other_count { M.write_faults media.new ≡ M.write_faults media.old }
+    ensures told { M.outside.tells → IfOk result
+        (IsPieceAt (head_of info.now) (content (M.outside.files media.old) name.now) from buf.new) }
+    ensures only_reads { OnlyReads M.outside media.old media.new }
+    ensures cause { HasCause (M.outside.read_faults media.old) (M.outside.read_faults media.new) result }
 {
     let align = info.channels as usize * (info.bits / 8) as usize;
     let at = info.data_at + from * align as u64;
-    let filled = fill(media, name, at, buf)?;
+    let filled = read_at_full(media, name, at, buf)?;
     Ok(filled / align * align)
 }
 
@@ -74,13 +73,12 @@ pub(crate) fn span<M: Media>(
     requires whole { length out.old % entry.now.info.channels ≡ 0 }
     requires room { length out.old * 3 ≤ length buf.old }
     requires few { length out.old ≤ 4096 * 8 }
-    ensures told { M.tells → OnOk result (out.new ≡ interleaved
-        (sound (head_of entry.now.info) (content (M.files media.old) entry.now.file))
+    ensures told { M.outside.tells → OnOk result (out.new ≡ interleaved
+        (sound (head_of entry.now.info) (content (M.outside.files media.old) entry.now.file))
         entry.now.info.channels from (length out.old)) }
     ensures range { OnOk result (All IsSample out.new) }
-    ensures files { M.files media.new ≡ M.files media.old }
-    ensures cause { HasCause (M.read_faults media.old) (M.read_faults media.new) result }
-    ensures other_count { M.write_faults media.new ≡ M.write_faults media.old }
+    ensures only_reads { OnlyReads M.outside media.old media.new }
+    ensures cause { HasCause (M.outside.read_faults media.old) (M.outside.read_faults media.new) result }
 {
     let info = &entry.info;
     let channels = info.channels as usize;

@@ -2,6 +2,7 @@
 ghost use Rattle.std.specs.Prelude.{◌≡◌, ◌%◌, length, OnOk, All};
 ghost use Rattle.sound_model.specs.Wav.{sound};
 ghost use Rattle.ses_io.specs.Faults.{HasCause};
+ghost use Rattle.ses_io.specs.Outside.{OnlyReads};
 ghost use Rattle.ses_io.specs.Files.{content};
 ghost use Rattle.wav_codec.specs.Info.{head_of};
 ghost use Rattle.session_model.specs.Frames.{interleaved, IsSample};
@@ -21,13 +22,12 @@ pub(crate) fn read_frames<M: Media>(
 ) -> Result<(), Failed>
     requires readable { IsReadable (length buf.old) entry.now }
     requires whole { length out.old % entry.now.info.channels ≡ 0 }
-    ensures told { M.tells → OnOk result (out.new ≡ interleaved
-        (sound (head_of entry.now.info) (content (M.files media.old) entry.now.file))
+    ensures told { M.outside.tells → OnOk result (out.new ≡ interleaved
+        (sound (head_of entry.now.info) (content (M.outside.files media.old) entry.now.file))
         entry.now.info.channels from (length out.old)) }
     ensures range { OnOk result (All IsSample out.new) }
-    ensures files { M.files media.new ≡ M.files media.old }
-    ensures cause { HasCause (M.read_faults media.old) (M.read_faults media.new) result }
-    ensures other_count { M.write_faults media.new ≡ M.write_faults media.old }
+    ensures only_reads { OnlyReads M.outside media.old media.new }
+    ensures cause { HasCause (M.outside.read_faults media.old) (M.outside.read_faults media.new) result }
 {
     let channels = entry.info.channels as usize;
     let mut done = 0;

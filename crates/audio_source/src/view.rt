@@ -17,13 +17,12 @@ impl<'a, M: Media> Frames for SourceView<'a, M> {
     ghost use Rattle.audio_source.specs.Opened.{channels_of};
     ghost use Rattle.audio_source.specs.Told.{all_told};
 
-    ghost tells = { M.tells };
-
-    ghost channels = { λ v. channels_of v.sources.now };
-
-    ghost frames_told = { λ v. all_told (M.files v.media.now) v.sources.now };
-
-    ghost faults = { λ v. M.read_faults v.media.now };
+    ghost outside = { record {
+      tells = M.outside.tells;
+      channels = λ v. channels_of v.sources.now;
+      frames = λ v. all_told (M.outside.files v.media.now) v.sources.now;
+      faults = λ v. M.outside.read_faults v.media.now;
+    } };
 
     fn frames(&mut self, source: u32, from: u64, out: &mut [i32]) -> Result<(), Failed> {
         match self.sources.frames(self.media, source, from, out) {

@@ -20,9 +20,9 @@ use Rattle.disk_ring.specs.Sender.{Sender}
 use Rattle.piece_item.specs.declared.item.Item.{Item}
 use Rattle.piece_item.specs.declared.ack.Ack.{Ack as Acknowledgement}
 use Rattle.piece_item.specs.Views.{ack_of}
-use Rattle.butler.specs.declared.ahead.Ahead.{Ahead}
-use Rattle.butler.specs.declared.supply.Supply.{Supply}
-use Rattle.butler.specs.Ahead.{entered}
+use Rattle.butler.specs.declared.progress.SendProgress.{SendProgress}
+use Rattle.butler.specs.declared.supply.TrackSupply.{TrackSupply}
+use Rattle.butler.specs.SendProgress.{entered}
 use Rattle.butler.specs.Sends.{kinds, acks_of}
 use Rattle.butler.specs.Serving.{StandsFor, IsTended}
 use Rattle.butler.proofs.TableLemmas.{next_rises}
@@ -32,7 +32,7 @@ use Rattle.butler.proofs.TableLemmas.{next_rises}
 acks_grow : (old new : List Acknowledgement) → IsPrefix old new → (more : List Ack) × (acks_of old ++ more ≡ acks_of new)
 acks_grow old new grows = (map ack_of grows.0, sym (map-append ack_of old grows.0) ∙ ap acks_of grows.1)
 
-pub stands_later : (s : Session) (edits : List Edit) (cycles t : ℕ) (acks acks' : List Ack) (a : Ahead) (before : List Kind) →
+pub stands_later : (s : Session) (edits : List Edit) (cycles t : ℕ) (acks acks' : List Ack) (a : SendProgress) (before : List Kind) →
     ((more : List Ack) × (acks ++ more ≡ acks')) → StandsFor s edits cycles t acks a before → StandsFor s edits cycles t acks' a before
 stands_later s edits cycles t acks acks' a before grows st = record {
   kept = st.kept;
@@ -45,19 +45,19 @@ stands_later s edits cycles t acks acks' a before grows st = record {
   near = st.near;
 }
 
-pub tended_later : (s : Session) (edits : List Edit) (cycles t : ℕ) (old new : List Acknowledgement) (failed : Bool) (p : Supply) (d : Sender Item) → IsPrefix old new →
+pub tended_later : (s : Session) (edits : List Edit) (cycles t : ℕ) (old new : List Acknowledgement) (failed : Bool) (p : TrackSupply) (d : Sender Item) → IsPrefix old new →
     IsTended s edits cycles t (acks_of old) failed p d → IsTended s edits cycles t (acks_of new) failed p d
 tended_later s edits cycles t old new failed p d grows is = record {
   depth = is.depth;
   room = is.room;
   closed = is.closed;
-  stands = stands_later s edits cycles t (acks_of old) (acks_of new) p.ahead (reverse (kinds d.sent)) (acks_grow old new grows) is.stands;
+  stands = stands_later s edits cycles t (acks_of old) (acks_of new) p.progress (reverse (kinds d.sent)) (acks_grow old new grows) is.stands;
 }
 
 -- ---- a later edition
 
 module _ (s : Session) (edits : List Edit) (cycles t : ℕ) (acks : List Ack) (before : List Kind) where
-  abbrev Fits : Ahead → Type 0
+  abbrev Fits : SendProgress → Type 0
   Fits a = (base : ℕ) × (Tracked a.generation a.touched base a.fresh a.far before × (base ≤ next_block acks a.generation) × (a.far ≤ cycles)
       × (a.generation ≡ generation edits (length edits)) × (a.touched ≡ playlist_edition s edits t (length edits)))
 
@@ -65,7 +65,7 @@ module _ (s : Session) (edits : List Edit) (cycles t : ℕ) (acks : List Ack) (b
   not_same m n other le = grind (arith, other, le)
 
   -- by whether it is of the generation, and by the playlist edition, of the edition that is entered
-  fits_by : (j : ℕ) (a : Ahead) (base : ℕ) (c m : Bool) → j ≤ length edits → list_all (is_from s edits t j) before ≡ true →
+  fits_by : (j : ℕ) (a : SendProgress) (base : ℕ) (c m : Bool) → j ≤ length edits → list_all (is_from s edits t j) before ≡ true →
       a.generation ≡ generation edits j → a.touched ≡ playlist_edition s edits t j → Tracked a.generation a.touched base a.fresh a.far before → base ≤ next_block acks a.generation → a.far ≤ cycles →
       (a.generation == generation edits (length edits)) ≡ c → (a.touched == playlist_edition s edits t (length edits)) ≡ m →
       Fits (if c then (if m then a else record a { touched = playlist_edition s edits t (length edits); fresh = a.far })
@@ -89,14 +89,14 @@ module _ (s : Session) (edits : List Edit) (cycles t : ℕ) (acks : List Ack) (b
   fits_by j a base true true le from g p tr passed near c_is m_is =
       (base, (tr, passed, near, eqb-true a.generation (generation edits (length edits)) c_is, eqb-true a.touched (playlist_edition s edits t (length edits)) m_is))
 
-  keeps_mark : (g p : ℕ) (a : Ahead) → (entered g p a).mark ≡ a.mark
+  keeps_mark : (g p : ℕ) (a : SendProgress) → (entered g p a).mark ≡ a.mark
   keeps_mark g p a = by_test (a.generation == g) (a.touched == p) where
     by_test : (c m : Bool) → (if c then (if m then a else record a { touched = p; fresh = a.far }) else record a { generation = g; touched = p; fresh = 0; far = 0 }).mark ≡ a.mark
     by_test false m = refl
     by_test true false = refl
     by_test true true = refl
 
-  pub stands_entered : (old more : List Edit) (a : Ahead) (g p : ℕ) → old ++ more ≡ edits → g ≡ generation edits (length edits) → p ≡ playlist_edition s edits t (length edits) →
+  pub stands_entered : (old more : List Edit) (a : SendProgress) (g p : ℕ) → old ++ more ≡ edits → g ≡ generation edits (length edits) → p ≡ playlist_edition s edits t (length edits) →
       StandsFor s old cycles t acks a before → StandsFor s edits cycles t acks (entered g p a) before
   stands_entered old more a g p grows g_is p_is st =
       let j = length old in let long : length old + length more ≡ length edits = sym (length-append old more) ∙ ap length grows in let le : j ≤ length edits = omega arith in

@@ -6,33 +6,33 @@ use Rattle.std.proofs.lemmas.Option.{slice_get_within, same_Some}
 use Rattle.session_model.specs.declared.session.Session.{Session}
 use Rattle.session_model.specs.Valid.{IsValid}
 use Rattle.engine_model.specs.Due.{Ack}
-use Rattle.edition_log.specs.Seen.{Seen as Edition, IsSeen, IsEditionOf}
-use Rattle.audio_source.specs.Opened.{Opened}
+use Rattle.edition_log.specs.EditionState.{EditionState as Edition, IsEditionState, IsEditionOf}
+use Rattle.audio_source.specs.Opened.{OpenedSource}
 use Rattle.piece_item.specs.declared.item.Item.{Item}
 use Rattle.piece_item.specs.declared.butler_ends.ButlerEnds.{ButlerEnds}
-use Rattle.butler.specs.declared.ahead.Ahead.{Ahead}
-use Rattle.butler.specs.declared.supply.Supply.{Supply}
+use Rattle.butler.specs.declared.progress.SendProgress.{SendProgress}
+use Rattle.butler.specs.declared.supply.TrackSupply.{TrackSupply}
 use Rattle.butler.specs.Sends.{kinds, acks_of}
 use Rattle.butler.specs.Table.{IsTable}
 use Rattle.butler.specs.Serving.{StandsFor, IsServing, AreStocked, AreFirst, MayBegin}
 use Rattle.butler.proofs.KeepLemmas.{session_is, generation_is, one_channel, few_tracks}
 
-abbrev pub first : Edition → ℕ → Ahead
+abbrev pub first : Edition → ℕ → SendProgress
 first e t = record { generation = e.transport.generation; touched = slice_index_or e.touched t 0; fresh = 0; far = 0; mark = 0 }
 
-abbrev pub IsFirst : Edition → ℕ → Supply → Type 0
-IsFirst e t p = (p.ahead ≡ first e t) × IsSomeAnd p.spare (λ b. length b.value.samples.items ≡ e.session.block)
+abbrev pub IsFirst : Edition → ℕ → TrackSupply → Type 0
+IsFirst e t p = (p.progress ≡ first e t) × IsSomeAnd p.spare (λ b. length b.value.samples.items ≡ e.session.block)
 
-pub one_more : (e : Edition) (ps : List Supply) (n : ℕ) (x : Supply) → length ps ≡ n → IsFirst e n x → ((t : ℕ) (p : Supply) → slice_get ps t ≡ Some p → IsFirst e t p) →
-    (t : ℕ) (p : Supply) → slice_get (ps ++ x ∷ []) t ≡ Some p → IsFirst e t p
+pub one_more : (e : Edition) (ps : List TrackSupply) (n : ℕ) (x : TrackSupply) → length ps ≡ n → IsFirst e n x → ((t : ℕ) (p : TrackSupply) → slice_get ps t ≡ Some p → IsFirst e t p) →
+    (t : ℕ) (p : TrackSupply) → slice_get (ps ++ x ∷ []) t ≡ Some p → IsFirst e t p
 one_more e ps n x many is all t p hp = by_place ps t p (λ u q hq. all u q hq) hp where
-  at_end : (xs : List Supply) (u : ℕ) (q : Supply) → slice_get (xs ++ x ∷ []) u ≡ Some q → (slice_get xs u ≡ Some q) ⊎ ((u ≡ length xs) × (x ≡ q))
+  at_end : (xs : List TrackSupply) (u : ℕ) (q : TrackSupply) → slice_get (xs ++ x ∷ []) u ≡ Some q → (slice_get xs u ≡ Some q) ⊎ ((u ≡ length xs) × (x ≡ q))
   at_end [] zero q h = inr (refl, same_Some x q h)
   at_end [] (suc u) q h = absurd (grind (arith, h))
   at_end (y ∷ ys) zero q h = inl h
   at_end (y ∷ ys) (suc u) q h = elim (at_end ys u q h) [ inl here ↦ inl here | inr last ↦ inr (ap suc last.0, last.1) ]
 
-  by_place : (xs : List Supply) (u : ℕ) (q : Supply) → ((v : ℕ) (r : Supply) → slice_get ps v ≡ Some r → IsFirst e v r) → slice_get (ps ++ x ∷ []) t ≡ Some p → IsFirst e t p
+  by_place : (xs : List TrackSupply) (u : ℕ) (q : TrackSupply) → ((v : ℕ) (r : TrackSupply) → slice_get ps v ≡ Some r → IsFirst e v r) → slice_get (ps ++ x ∷ []) t ≡ Some p → IsFirst e t p
   by_place xs u q f h = elim (at_end ps t p h) [
     | inl here ↦ all t p here
     | inr last ↦ subst (λ (m : ℕ). IsFirst e m p) (sym (last.0 ∙ many)) (subst (IsFirst e n) last.1 is)
@@ -62,7 +62,7 @@ stands_first s e is cycles t acks near = record {
 }
 
 -- a new butler fits its rings
-pub first_stocked : (s : Session) (e : Edition) (sources : List Opened) (cycles : ℕ) (ends : ButlerEnds) (ps : List Supply) → IsSeen e → MayBegin s e sources cycles ends → AreFirst e ps → AreStocked ps ends.sends.items
+pub first_stocked : (s : Session) (e : Edition) (sources : List OpenedSource) (cycles : ℕ) (ends : ButlerEnds) (ps : List TrackSupply) → IsEditionState e → MayBegin s e sources cycles ends → AreFirst e ps → AreStocked ps ends.sends.items
 first_stocked s e sources cycles ends ps seen may firsts = let same = session_is s e may.edition_of in let valid : IsValid s = subst IsValid same seen.valid in
     let sized = ap (λ (z : Session). length z.tracks.items) same in record {
       many = firsts.many ∙ sized ∙ sym may.tracks;
@@ -76,7 +76,7 @@ first_stocked s e sources cycles ends ps seen may firsts = let same = session_is
       once : (n : ℕ) → n ≡ n * 1
       once n = omega arith
 
-pub first_serving : {V : Type 0} (s : Session) (e : Edition) (media : V) (sources : List Opened) (cycles : ℕ) (ends : ButlerEnds) (ps : List Supply) (nexts : List ℕ) → IsSeen e →
+pub first_serving : {V : Type 0} (s : Session) (e : Edition) (media : V) (sources : List OpenedSource) (cycles : ℕ) (ends : ButlerEnds) (ps : List TrackSupply) (nexts : List ℕ) → IsEditionState e →
     MayBegin s e sources cycles ends → AreFirst e ps → nexts ≡ replicate 10001 0 →
     IsServing s e.edits (record { media = media; sources = sources; cycles = cycles; ends = ends; supplies = ps; nexts = nexts; failed = false })
 first_serving s e media sources cycles ends ps nexts seen may firsts zeros = let same = session_is s e may.edition_of in let valid : IsValid s = subst IsValid same seen.valid in record {
@@ -93,7 +93,7 @@ first_serving s e media sources cycles ends ps nexts seen may firsts zeros = let
     depth = new.deep;
     room = new.wide;
     closed = new.not_closed;
-    stands = subst (λ (a : Ahead). StandsFor s e.edits cycles t (acks_of ends.acks.received) a (reverse (kinds d.sent))) (sym (firsts.each t p hp).0)
+    stands = subst (λ (a : SendProgress). StandsFor s e.edits cycles t (acks_of ends.acks.received) a (reverse (kinds d.sent))) (sym (firsts.each t p hp).0)
         (subst (λ (items : List Item). StandsFor s e.edits cycles t (acks_of ends.acks.received) (first e t) (reverse (kinds items))) (sym new.nothing_sent)
         (stands_first s e may.edition_of cycles t (acks_of ends.acks.received) (few_tracks s t valid low)));
   };

@@ -22,7 +22,7 @@ use Rattle.engine_laws.specs.PlayedLaws.{IsNamed}
 use Rattle.engine_laws.proofs.NumberLemmas.{last_in}
 use Rattle.engine_laws.proofs.PlayedLemmas.{session_stands, genuine_stays}
 use Rattle.locate_loop.specs.Transport.{transport_of}
-use Rattle.edition_log.specs.Seen.{Seen as Edition, IsEditionOf}
+use Rattle.edition_log.specs.EditionState.{EditionState as Edition, IsEditionOf}
 use Rattle.edition_log.proofs.PlayLaws.{editions_play_their_places}
 use Rattle.piece_item.specs.declared.item.Item.{Item}
 use Rattle.piece_item.specs.Views.{kind_of, item_of}

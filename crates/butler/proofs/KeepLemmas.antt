@@ -17,15 +17,15 @@ use Rattle.engine_model.specs.Edits.{generation}
 use Rattle.engine_model.specs.Due.{Ack, needs, next_block}
 use Rattle.engine_model.specs.PlainSession.{has_16_bits, is_plain, is_plain_route, is_plain_track, is_at_unity, leads_plainly, is_manual, has_no_point, sends_nothing}
 use Rattle.engine_laws.proofs.PlayedLemmas.{session_stands}
-use Rattle.edition_log.specs.Seen.{Seen as Edition, IsEditionOf}
+use Rattle.edition_log.specs.EditionState.{EditionState as Edition, IsEditionOf}
 use Rattle.edition_log.proofs.PlayLaws.{editions_play_their_places}
 use Rattle.disk_ring.specs.Receiver.{GoesOnOut}
-use Rattle.butler.specs.declared.supply.Supply.{Supply}
-use Rattle.butler.specs.Ahead.{needs_of, wants_of}
+use Rattle.butler.specs.declared.supply.TrackSupply.{TrackSupply}
+use Rattle.butler.specs.SendProgress.{needs_of, target_of}
 use Rattle.butler.specs.Sends.{kinds, acks_of}
 use Rattle.butler.specs.Serves.{AreEntered}
 use Rattle.butler.specs.Table.{IsTable}
-use Rattle.butler.specs.Seen.{Seen}
+use Rattle.butler.specs.ButlerState.{ButlerState}
 use Rattle.butler.specs.Serving.{StandsFor, IsServing}
 use Rattle.butler.proofs.SoundLemmas.{both}
 use Rattle.butler.proofs.AcceptLemmas.{tended_later, stands_entered}
@@ -64,10 +64,10 @@ module _ (s : Session) (e : Edition) (is : IsEditionOf s e) where
   pub generation_is : e.transport.generation ≡ generation e.edits (length e.edits)
   generation_is = (editions_play_their_places s e is).counted
 
-  -- what is wanted of a track is what the definitions of the engine want
-  pub wants_are : (t next cycles : ℕ) (acks : List Ack) → t < 32 → next ≡ next_block acks (generation e.edits (length e.edits)) →
-      needs_of (wants_of e t next cycles) ≡ needs s e.edits cycles t (length e.edits) acks
-  wants_are t next cycles acks near next_is = λ i. record {
+  -- what a pass aims at of a track is what the definitions of the engine need
+  pub targets_are : (t next cycles : ℕ) (acks : List Ack) → t < 32 → next ≡ next_block acks (generation e.edits (length e.edits)) →
+      needs_of (target_of (record { edition = e; next = next; cycles = cycles }) t) ≡ needs s e.edits cycles t (length e.edits) acks
+  targets_are t next cycles acks near next_is = λ i. record {
     track = t;
     edition = length e.edits;
     generation = generation_is i;
@@ -79,10 +79,10 @@ module _ (s : Session) (e : Edition) (is : IsEditionOf s e) where
 
 -- ---- the first two parts of a turn
 
-pub accept_keeps : {V : Type 0} (s : Session) (before : List Edit) (old new : Seen V) → new ≡ record old { ends = record old.ends { acks = new.ends.acks }; nexts = new.nexts } →
+pub accept_keeps : {V : Type 0} (s : Session) (before : List Edit) (old new : ButlerState V) → new ≡ record old { ends = record old.ends { acks = new.ends.acks }; nexts = new.nexts } →
     GoesOnOut old.ends.acks new.ends.acks → (IsTable old.nexts (acks_of old.ends.acks.received) → IsTable new.nexts (acks_of new.ends.acks.received)) →
     IsServing s before old → IsServing s before new
-accept_keeps {V} s before old new same goes table is = subst (λ (b : Seen V). IsServing s before b) (sym same) record {
+accept_keeps {V} s before old new same goes table is = subst (λ (b : ButlerState V). IsServing s before b) (sym same) record {
   plain = is.plain;
   valid = is.valid;
   sends = is.sends;
@@ -98,9 +98,9 @@ accept_keeps {V} s before old new same goes table is = subst (λ (b : Seen V). I
 pub few_tracks : (s : Session) (t : ℕ) → IsValid s → t < length s.tracks.items → t < 32
 few_tracks s t valid near = let few = valid.formed.limits.tracks in omega arith
 
-pub enter_keeps : {V : Type 0} (s : Session) (before : List Edit) (e : Edition) (old new : Seen V) → new ≡ record old { supplies = new.supplies } → AreEntered e old.supplies new.supplies →
+pub enter_keeps : {V : Type 0} (s : Session) (before : List Edit) (e : Edition) (old new : ButlerState V) → new ≡ record old { supplies = new.supplies } → AreEntered e old.supplies new.supplies →
     IsEditionOf s e → IsPrefix before e.edits → IsServing s before old → IsServing s e.edits new
-enter_keeps {V} s before e old new same enters edition grows is = subst (λ (b : Seen V). IsServing s e.edits b) (sym same) record {
+enter_keeps {V} s before e old new same enters edition grows is = subst (λ (b : ButlerState V). IsServing s e.edits b) (sym same) record {
   plain = is.plain;
   valid = is.valid;
   sends = is.sends;
@@ -116,8 +116,8 @@ enter_keeps {V} s before e old new same enters edition grows is = subst (λ (b :
         depth = tended.depth;
         room = tended.room;
         closed = tended.closed;
-        stands = subst (λ (z : Supply). StandsFor s e.edits old.cycles t (acks_of old.ends.acks.received) z.ahead (reverse (kinds d.sent))) (sym (enters.each t p q hp hq))
-            (stands_entered s e.edits old.cycles t (acks_of old.ends.acks.received) (reverse (kinds d.sent)) before grows.0 p.ahead e.transport.generation (slice_index_or e.touched t 0)
+        stands = subst (λ (z : TrackSupply). StandsFor s e.edits old.cycles t (acks_of old.ends.acks.received) z.progress (reverse (kinds d.sent))) (sym (enters.each t p q hp hq))
+            (stands_entered s e.edits old.cycles t (acks_of old.ends.acks.received) (reverse (kinds d.sent)) before grows.0 p.progress e.transport.generation (slice_index_or e.touched t 0)
             grows.1 (generation_is s e edition) (edition.touched t (few_tracks s t is.valid low)) tended.stands);
       };
 }

@@ -14,7 +14,7 @@ pub mod AcceptLemmas
 pub mod KeepLemmas
 pub mod TurnLemmas
 pub mod GenuineLemmas
-pub mod CourseLemmas
+pub mod TurnStepsLemmas
 pub mod FirstLemmas
 pub mod MeetingLemmas
-mod BenchLemmas
+mod LoopVectors

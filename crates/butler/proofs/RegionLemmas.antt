@@ -18,8 +18,8 @@ use Rattle.session_model.specs.Formed.{channels_at, HasSource}
 use Rattle.session_model.specs.Valid.{IsValid}
 use Rattle.session_model.specs.Views.{track_regions}
 use Rattle.engine_model.specs.PlainSession.{has_16_bits, is_plain_region, is_plain_track, is_plain}
-use Rattle.audio_source.specs.Opened.{Opened, channels_of, IsListed}
-use Rattle.butler.specs.Render.{IsHeard}
+use Rattle.audio_source.specs.Opened.{OpenedSource, channels_of, IsListed}
+use Rattle.butler.specs.Render.{IsHeardPlainly}
 use Rattle.butler.proofs.SoundLemmas.{both}
 
 -- A track of a session, and its regions as they are read.
@@ -76,17 +76,17 @@ first_shown : (regions : List Region) (r : Region) → slice_get regions 0 ≡ S
 first_shown [] r e = cc
 first_shown (q ∷ qs) r e = let same : q ≡ r = cc in ap (λ p. Some (region_of p)) same
 
-mono_source : (s : Session) (opened : List Opened) (i : ℕ) (d : SourceDecl) → is_plain s ≡ true → IsListed s.rate s.sources.items opened → slice_get s.sources.items i ≡ Some d →
+mono_source : (s : Session) (opened : List OpenedSource) (i : ℕ) (d : SourceDecl) → is_plain s ≡ true → IsListed s.rate s.sources.items opened → slice_get s.sources.items i ≡ Some d →
     slice_index (channels_of opened) i ≡ 1
 mono_source s opened i d plain listed at = go (slice_get_cases opened i).1
   where
-    go : ((o : Opened) × (i < length opened) × (slice_get opened i ≡ Some o) × (get_or opened i o ≡ o)) ⊎ ((length opened ≤ i) × (slice_get opened i ≡ None)) → slice_index (channels_of opened) i ≡ 1
+    go : ((o : OpenedSource) × (i < length opened) × (slice_get opened i ≡ Some o) × (get_or opened i o ≡ o)) ⊎ ((length opened ≤ i) × (slice_get opened i ≡ None)) → slice_index (channels_of opened) i ≡ 1
     go (inl w) = get_or-map (λ o. o.head.form.channels) opened i w.0 0 w.1 ∙ ap (λ o. o.head.form.channels) w.3
         ∙ (listed.each i d w.0 at w.2).channels ∙ (Decides-eqb d.channels 1).0 (passes (λ q. q.channels == 1) s.sources.items i d (plain_sources s plain) at)
     go (inr w) = absurd (omega (arith, w.0, slice_get_within s.sources.items i d at, listed.many))
 
-heard : (s : Session) (t : ℕ) (k : Track) (regions : List Region) (r : Region) (opened : List Opened) → is_plain s ≡ true → IsValid s → IsTrackOf s t k regions → slice_get regions 0 ≡ Some r →
-    IsListed s.rate s.sources.items opened → IsHeard opened (region_of r)
+heard : (s : Session) (t : ℕ) (k : Track) (regions : List Region) (r : Region) (opened : List OpenedSource) → is_plain s ≡ true → IsValid s → IsTrackOf s t k regions → slice_get regions 0 ≡ Some r →
+    IsListed s.rate s.sources.items opened → IsHeardPlainly opened (region_of r)
 heard s t k regions r opened plain valid is first listed = record {
   limits = all_at IsRegion k.list 0 (region_of r) is.playlist.limits shown;
   plain = passes is_plain_region k.list 0 (region_of r) (as_they_are k (passes is_plain_track s.tracks.items t k (plain_tracks s plain) is.there)) shown;
@@ -101,7 +101,7 @@ heard s t k regions r opened plain valid is first listed = record {
     decl = item_of (λ d. d.channels ≡ channels_at s t) (slice_get s.sources.items r.source)
         (all_at (HasSource s (channels_at s t)) k.list 0 (region_of r) (valid.formed.tracks t k is.there).regions shown)
 
-pub if_heard : (s : Session) (t : ℕ) (k : Track) (regions : List Region) (first : Option Region) (opened : List Opened) → is_plain s ≡ true → IsValid s → IsTrackOf s t k regions → first ≡ slice_get regions 0 →
-    IsListed s.rate s.sources.items opened → IfSome first (λ r. IsHeard opened (region_of r))
+pub if_heard : (s : Session) (t : ℕ) (k : Track) (regions : List Region) (first : Option Region) (opened : List OpenedSource) → is_plain s ≡ true → IsValid s → IsTrackOf s t k regions → first ≡ slice_get regions 0 →
+    IsListed s.rate s.sources.items opened → IfSome first (λ r. IsHeardPlainly opened (region_of r))
 if_heard s t k regions None opened plain valid is e listed = tt
 if_heard s t k regions (Some r) opened plain valid is e listed = heard s t k regions r opened plain valid is (sym e) listed

@@ -7,38 +7,38 @@ use Rattle.std.proofs.lemmas.Option.{slice_get-get_or, same_Some, slice_get_with
 use mathlib.Core.Logic.{dite}
 use native.Mathlib.Decide.{ℕ_discrete}
 use Rattle.sound_model.specs.Regions.{Sounds}
-use Rattle.edition_log.specs.Seen.{Seen as Edition}
 use Rattle.disk_ring.specs.Sender.{Sender}
 use Rattle.piece_item.specs.declared.item.Item.{Item}
-use Rattle.butler.specs.declared.supply.Supply.{Supply}
-use Rattle.butler.specs.Ahead.{needs_of, wants_of}
+use Rattle.butler.specs.declared.supply.TrackSupply.{TrackSupply}
+use Rattle.butler.specs.Pass.{PassState}
+use Rattle.butler.specs.SendProgress.{needs_of, target_of}
 use Rattle.butler.specs.Serves.{Serves, HasSpare, IsServed, HasServed, IsStocked, AllStocked, AllServe, HaveServed}
 use Rattle.butler.proofs.ListLemmas.{Changed, changed_none, changed_more, set_here, set_else}
 use Rattle.butler.proofs.RunLemmas.{serves_nothing}
 
 -- a track's supply and its ring
 abbrev pub Stall : Type 0
-Stall = Option Supply × Option (Sender Item)
+Stall = Option TrackSupply × Option (Sender Item)
 
-abbrev pub at : List Supply → List (Sender Item) → ℕ → Stall
+abbrev pub at : List TrackSupply → List (Sender Item) → ℕ → Stall
 at ps ds k = (slice_get ps k, slice_get ds k)
 
-module _ (tells : Type 0) (sounds : Sounds) (e : Edition) (next cycles : ℕ) where
+module _ (tells : Type 0) (sounds : Sounds) (pass : PassState) where
   -- the track was served
   abbrev pub R : ℕ → Stall → Stall → Type 0
-  R k old new = (p q : Supply) (d f : Sender Item) → old.0 ≡ Some p → new.0 ≡ Some q → old.1 ≡ Some d → new.1 ≡ Some f →
-      Serves tells sounds e (needs_of (wants_of e k next cycles)) p.ahead d q.ahead f × HasSpare q f
+  R k old new = (p q : TrackSupply) (d f : Sender Item) → old.0 ≡ Some p → new.0 ≡ Some q → old.1 ≡ Some d → new.1 ≡ Some f →
+      Serves tells sounds pass.edition (needs_of (target_of pass k)) p.progress d q.progress f × HasSpare q f
 
   -- and was given all
   abbrev pub D : ℕ → Stall → Stall → Type 0
-  D k old new = (q : Supply) (d f : Sender Item) → new.0 ≡ Some q → old.1 ≡ Some d → new.1 ≡ Some f →
-      IsServed (needs_of (wants_of e k next cycles)) d q.ahead f
+  D k old new = (q : TrackSupply) (d f : Sender Item) → new.0 ≡ Some q → old.1 ≡ Some d → new.1 ≡ Some f →
+      IsServed (needs_of (target_of pass k)) d q.progress f
 
   -- something was sent of the track
   abbrev pub G : ℕ → Stall → Stall → Type 0
   G k old new = (d : Sender Item) × (f : Sender Item) × ((old.1 ≡ Some d) × (new.1 ≡ Some f) × (length d.sent < length f.sent))
 
-  pub record SoFar (i most sent : ℕ) (ps : List Supply) (ds : List (Sender Item)) (qs : List Supply) (fs : List (Sender Item)) : Type 0 where
+  pub record SoFar (i most sent : ℕ) (ps : List TrackSupply) (ds : List (Sender Item)) (qs : List TrackSupply) (fs : List (Sender Item)) : Type 0 where
     pub supplies : length qs ≡ length ps
     pub sends : length fs ≡ length ds
     pub each : Changed R i (at ps ds) (at qs fs)
@@ -47,7 +47,7 @@ module _ (tells : Type 0) (sounds : Sounds) (e : Edition) (next cycles : ℕ) wh
     pub served : sent < most → (k : ℕ) → k < i → D k (at ps ds k) (at qs fs k)
     pub in_order : (u t : ℕ) → u < t → t < i → G t (at ps ds t) (at qs fs t) → D u (at ps ds u) (at qs fs u)
 
-  pub so_far_none : (most : ℕ) (ps : List Supply) (ds : List (Sender Item)) → SoFar 0 most 0 ps ds ps ds
+  pub so_far_none : (most : ℕ) (ps : List TrackSupply) (ds : List (Sender Item)) → SoFar 0 most 0 ps ds ps ds
   so_far_none most ps ds = record {
     supplies = refl;
     sends = refl;
@@ -58,57 +58,57 @@ module _ (tells : Type 0) (sounds : Sounds) (e : Edition) (next cycles : ℕ) wh
     in_order = λ u t below near. absurd (omega arith);
   }
 
-  same_stall : (i k : ℕ) (qs : List Supply) (fs : List (Sender Item)) (q : Supply) (f : Sender Item) → k ≢ i → at (set qs i q) (set fs i f) k ≡ at qs fs k
+  same_stall : (i k : ℕ) (qs : List TrackSupply) (fs : List (Sender Item)) (q : TrackSupply) (f : Sender Item) → k ≢ i → at (set qs i q) (set fs i f) k ≡ at qs fs k
   same_stall i k qs fs q f other j = (set_else qs i k q other j, set_else fs i k f other j)
 
   -- what stands at a track that was just served
   here_is : {X : Type 0} (xs : List X) (i : ℕ) (x y : X) → i < length xs → slice_get (set xs i x) i ≡ Some y → x ≡ y
   here_is xs i x y near h = same_Some x y (sym (set_here xs i x near) ∙ h)
 
-  serves_here : (i : ℕ) (ps : List Supply) (ds : List (Sender Item)) (qs : List Supply) (fs : List (Sender Item)) (p q : Supply) (d f : Sender Item) →
-      i < length qs → i < length fs → at ps ds i ≡ (Some p, Some d) → Serves tells sounds e (needs_of (wants_of e i next cycles)) p.ahead d q.ahead f → HasSpare q f →
+  serves_here : (i : ℕ) (ps : List TrackSupply) (ds : List (Sender Item)) (qs : List TrackSupply) (fs : List (Sender Item)) (p q : TrackSupply) (d f : Sender Item) →
+      i < length qs → i < length fs → at ps ds i ≡ (Some p, Some d) → Serves tells sounds pass.edition (needs_of (target_of pass i)) p.progress d q.progress f → HasSpare q f →
       R i (at ps ds i) (at (set qs i q) (set fs i f) i)
   serves_here i ps ds qs fs p q d f near within was serves spare p' q' d' f' hp hq hd hf =
       let ep : p ≡ p' = same_Some p p' (sym (ap (λ (s : Stall). s.0) was) ∙ hp) in let ed : d ≡ d' = same_Some d d' (sym (ap (λ (s : Stall). s.1) was) ∙ hd) in
       let eq : q ≡ q' = here_is qs i q q' near hq in let ef : f ≡ f' = here_is fs i f f' within hf in
-      let P : (Supply × Supply × Sender Item × Sender Item) → Type 0 = λ z. Serves tells sounds e (needs_of (wants_of e i next cycles)) z.0.ahead z.2 z.1.ahead z.3 × HasSpare z.1 z.3 in
+      let P : (TrackSupply × TrackSupply × Sender Item × Sender Item) → Type 0 = λ z. Serves tells sounds pass.edition (needs_of (target_of pass i)) z.0.progress z.2 z.1.progress z.3 × HasSpare z.1 z.3 in
       subst P (λ j. (ep j, eq j, ed j, ef j)) (serves, spare)
 
-  served_here : (i : ℕ) (ps : List Supply) (ds : List (Sender Item)) (qs : List Supply) (fs : List (Sender Item)) (q : Supply) (d f : Sender Item) →
-      i < length qs → i < length fs → slice_get ds i ≡ Some d → IsServed (needs_of (wants_of e i next cycles)) d q.ahead f →
+  served_here : (i : ℕ) (ps : List TrackSupply) (ds : List (Sender Item)) (qs : List TrackSupply) (fs : List (Sender Item)) (q : TrackSupply) (d f : Sender Item) →
+      i < length qs → i < length fs → slice_get ds i ≡ Some d → IsServed (needs_of (target_of pass i)) d q.progress f →
       D i (at ps ds i) (at (set qs i q) (set fs i f) i)
   served_here i ps ds qs fs q d f near within was served q' d' f' hq hd hf =
       let ed : d ≡ d' = same_Some d d' (sym was ∙ hd) in
       let eq : q ≡ q' = here_is qs i q q' near hq in let ef : f ≡ f' = here_is fs i f f' within hf in
-      let P : (Supply × Sender Item × Sender Item) → Type 0 = λ z. IsServed (needs_of (wants_of e i next cycles)) z.1 z.0.ahead z.2 in
+      let P : (TrackSupply × Sender Item × Sender Item) → Type 0 = λ z. IsServed (needs_of (target_of pass i)) z.1 z.0.progress z.2 in
       subst P (λ j. (eq j, ed j, ef j)) served
 
   -- what a served track got
-  grown_here : (i : ℕ) (ps : List Supply) (ds : List (Sender Item)) (qs : List Supply) (fs : List (Sender Item)) (q : Supply) (d f : Sender Item) →
+  grown_here : (i : ℕ) (ps : List TrackSupply) (ds : List (Sender Item)) (qs : List TrackSupply) (fs : List (Sender Item)) (q : TrackSupply) (d f : Sender Item) →
       i < length fs → slice_get ds i ≡ Some d → G i (at ps ds i) (at (set qs i q) (set fs i f) i) → length d.sent < length f.sent
   grown_here i ps ds qs fs q d f within was grew =
       let ed : d ≡ grew.0 = same_Some d grew.0 (sym was ∙ grew.2.0) in let ef : f ≡ grew.1 = here_is fs i f grew.1 within grew.2.1 in
       let more = grew.2.2 in omega (arith, more, ap (λ (z : Sender Item). length z.sent) ed, ap (λ (z : Sender Item). length z.sent) ef)
 
-  pub changed_here : (i : ℕ) (ps : List Supply) (ds : List (Sender Item)) (qs : List Supply) (fs : List (Sender Item)) (p q : Supply) (d f : Sender Item) →
+  pub changed_here : (i : ℕ) (ps : List TrackSupply) (ds : List (Sender Item)) (qs : List TrackSupply) (fs : List (Sender Item)) (p q : TrackSupply) (d f : Sender Item) →
       Changed R i (at ps ds) (at qs fs) → i < length qs → i < length fs → slice_get qs i ≡ Some p → slice_get fs i ≡ Some d →
-      Serves tells sounds e (needs_of (wants_of e i next cycles)) p.ahead d q.ahead f → HasSpare q f → Changed R (i + 1) (at ps ds) (at (set qs i q) (set fs i f))
+      Serves tells sounds pass.edition (needs_of (target_of pass i)) p.progress d q.progress f → HasSpare q f → Changed R (i + 1) (at ps ds) (at (set qs i q) (set fs i f))
   changed_here i ps ds qs fs p q d f so near within hp hd serves spare = changed_more R i (at ps ds) (at qs fs) (at (set qs i q) (set fs i f)) so
       (λ k other. same_stall i k qs fs q f other)
       (serves_here i ps ds qs fs p q d f near within (sym (so.rest i (omega arith)) ∙ (λ j. (hp j, hd j))) serves spare)
 
   -- a track that wasn't served yet can be served
-  pub stocked_here : (block i : ℕ) (ps : List Supply) (ds : List (Sender Item)) (qs : List Supply) (fs : List (Sender Item)) (p : Supply) (d : Sender Item) →
+  pub stocked_here : (block i : ℕ) (ps : List TrackSupply) (ds : List (Sender Item)) (qs : List TrackSupply) (fs : List (Sender Item)) (p : TrackSupply) (d : Sender Item) →
       AllStocked block ps ds → Changed R i (at ps ds) (at qs fs) → i < length qs → i < length fs →
       IsStocked block (get_or qs i p) (get_or fs i d) × ((get_or fs i d).closed ≡ false)
   stocked_here block i ps ds qs fs p d stocked so near within = let rest : at qs fs i ≡ at ps ds i = so.rest i (omega arith) in
       stocked.each i (get_or qs i p) (get_or fs i d)
       (sym (ap (λ (s : Stall). s.0) rest) ∙ slice_get-get_or qs i p near) (sym (ap (λ (s : Stall). s.1) rest) ∙ slice_get-get_or fs i d within)
 
-  pub so_far_more : (i most sent : ℕ) (ps : List Supply) (ds : List (Sender Item)) (qs : List Supply) (fs : List (Sender Item))
-      (p q : Supply) (d f : Sender Item) (given : ℕ) → SoFar i most sent ps ds qs fs → i < length ps → i < length ds →
+  pub so_far_more : (i most sent : ℕ) (ps : List TrackSupply) (ds : List (Sender Item)) (qs : List TrackSupply) (fs : List (Sender Item))
+      (p q : TrackSupply) (d f : Sender Item) (given : ℕ) → SoFar i most sent ps ds qs fs → i < length ps → i < length ds →
       slice_get qs i ≡ Some p → slice_get fs i ≡ Some d →
-      Serves tells sounds e (needs_of (wants_of e i next cycles)) p.ahead d q.ahead f → HasSpare q f → HasServed (needs_of (wants_of e i next cycles)) (most - sent) d q.ahead f given →
+      Serves tells sounds pass.edition (needs_of (target_of pass i)) p.progress d q.progress f → HasSpare q f → HasServed (needs_of (target_of pass i)) (most - sent) d q.progress f given →
       SoFar (i + 1) most (sent + given) ps ds (set qs i q) (set fs i f)
   so_far_more i most sent ps ds qs fs p q d f given so near within hp hd serves spare gave =
       let rest : at qs fs i ≡ at ps ds i = so.each.rest i (omega arith) in
@@ -133,8 +133,8 @@ module _ (tells : Type 0) (sounds : Sounds) (e : Edition) (next cycles : ℕ) wh
       }
 
   -- whatever was answered, each track was served
-  pub all_serve : (block i : ℕ) (ps : List Supply) (ds : List (Sender Item)) (qs : List Supply) (fs : List (Sender Item)) → AllStocked block ps ds → length qs ≡ length ps → length fs ≡ length ds →
-      Changed R i (at ps ds) (at qs fs) → AllServe tells sounds e next cycles ps ds qs fs
+  pub all_serve : (block i : ℕ) (ps : List TrackSupply) (ds : List (Sender Item)) (qs : List TrackSupply) (fs : List (Sender Item)) → AllStocked block ps ds → length qs ≡ length ps → length fs ≡ length ds →
+      Changed R i (at ps ds) (at qs fs) → AllServe tells sounds pass ps ds qs fs
   all_serve block i ps ds qs fs stocked supplies sends changed = record {
     supplies = supplies;
     sends = sends;
@@ -142,13 +142,13 @@ module _ (tells : Type 0) (sounds : Sounds) (e : Edition) (next cycles : ℕ) wh
       | inl near ↦ changed.done k near p q d f hp hq hd hf
       | inr far ↦ let same = changed.rest k far in
           let ep : p ≡ q = same_Some p q (sym hp ∙ sym (ap (λ (s : Stall). s.0) same) ∙ hq) in let ed : d ≡ f = same_Some d f (sym hd ∙ sym (ap (λ (s : Stall). s.1) same) ∙ hf) in
-          let P : (Supply × Sender Item) → Type 0 = λ z. Serves tells sounds e (needs_of (wants_of e k next cycles)) p.ahead d z.0.ahead z.1 × HasSpare z.0 z.1 in
-          subst P (λ j. (ep j, ed j)) (serves_nothing tells sounds e (needs_of (wants_of e k next cycles)) p.ahead d, (stocked.each k p d hp hd).0.spare)
+          let P : (TrackSupply × Sender Item) → Type 0 = λ z. Serves tells sounds pass.edition (needs_of (target_of pass k)) p.progress d z.0.progress z.1 × HasSpare z.0 z.1 in
+          subst P (λ j. (ep j, ed j)) (serves_nothing tells sounds pass.edition (needs_of (target_of pass k)) p.progress d, (stocked.each k p d hp hd).0.spare)
     ];
   }
 
-  pub have_served : (i most sent : ℕ) (ps : List Supply) (ds : List (Sender Item)) (qs : List Supply) (fs : List (Sender Item)) →
-      length ds ≤ i → SoFar i most sent ps ds qs fs → HaveServed e next cycles most ds qs fs sent
+  pub have_served : (i most sent : ℕ) (ps : List TrackSupply) (ds : List (Sender Item)) (qs : List TrackSupply) (fs : List (Sender Item)) →
+      length ds ≤ i → SoFar i most sent ps ds qs fs → HaveServed pass most ds qs fs sent
   have_served i most sent ps ds qs fs end so = record {
     counted = so.counted;
     few = so.few;

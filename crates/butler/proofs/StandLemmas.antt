@@ -13,8 +13,8 @@ use Rattle.engine_laws.specs.Tracked.{Tracked, due_now}
 use Rattle.engine_laws.proofs.DueLemmas.{due_after_is, revise_keeps, place_keeps, mark_keeps}
 use Rattle.engine_laws.proofs.MarkLemmas.{marked_is}
 use Rattle.engine_laws.proofs.SendLemmas.{send_keeps}
-use Rattle.butler.specs.declared.ahead.Ahead.{Ahead}
-use Rattle.butler.specs.Ahead.{now_due, advanced, IsRun}
+use Rattle.butler.specs.declared.progress.SendProgress.{SendProgress}
+use Rattle.butler.specs.SendProgress.{now_due, advanced, AreDueInOrder}
 use Rattle.butler.specs.Sends.{AreDue}
 use Rattle.butler.specs.Serving.{StandsFor}
 
@@ -29,32 +29,32 @@ module _ (n : Needs) where
   Names (Piece t g s p) = (t ≡ n.track) × (g ≡ n.generation) × (p ≡ n.touched)
   Names _ = Unit {0}
 
-  abbrev T : Ahead → ℕ → List Kind → Type 0
+  abbrev T : SendProgress → ℕ → List Kind → Type 0
   T a base after = Tracked a.generation a.touched base a.fresh a.far after
 
   -- the numbers hold of what was sent
-  abbrev Holds : Ahead → List Kind → Type 0
+  abbrev Holds : SendProgress → List Kind → Type 0
   Holds a after = (base : ℕ) × (T a base after × (base ≤ n.next) × (a.far ≤ n.cycles))
 
-  abbrev After : Ahead → List Kind → Kind → Type 0
+  abbrev After : SendProgress → List Kind → Kind → Type 0
   After a before x = Names x × Holds (advanced n.next a x) (x ∷ before)
 
   -- what is due, by the three tests
-  abbrev picked : Ahead → Bool → Bool → Bool → Option Kind
+  abbrev picked : SendProgress → Bool → Bool → Bool → Option Kind
   picked a c m q = if c then Some (Piece n.track n.generation (a.fresh - 1) n.touched)
       else (if m then (if q then Some (Piece n.track n.generation (max a.far n.next) n.touched) else None) else Some (Settled n.edition n.generation n.next))
 
-  as_named : (a : Ahead) (s : ℕ) → a.generation ≡ n.generation → a.touched ≡ n.touched → Piece n.track a.generation s a.touched ≡ Piece n.track n.generation s n.touched
+  as_named : (a : SendProgress) (s : ℕ) → a.generation ≡ n.generation → a.touched ≡ n.touched → Piece n.track a.generation s a.touched ≡ Piece n.track n.generation s n.touched
   as_named a s g p = λ i. Piece n.track (g i) s (p i)
 
-  step_by : (a : Ahead) (base : ℕ) (before : List Kind) (x : Kind) (c m q : Bool) → a.generation ≡ n.generation → a.touched ≡ n.touched → T a base before → base ≤ n.next → a.far ≤ n.cycles →
+  step_by : (a : SendProgress) (base : ℕ) (before : List Kind) (x : Kind) (c m q : Bool) → a.generation ≡ n.generation → a.touched ≡ n.touched → T a base before → base ≤ n.next → a.far ≤ n.cycles →
       nat_lt n.next a.fresh ≡ c → (nat_lt (max a.far n.next) (n.next + n.depth) && nat_lt (max a.far n.next) n.cycles) ≡ q → picked a c m q ≡ Some x → After a before x
   step_by a base before x true m q g p tr le near c_is q_is h =
       let P : Kind = Piece n.track n.generation (a.fresh - 1) n.touched in
       let lt : n.next < a.fresh = ltb-true n.next a.fresh c_is in
       subst (After a before) (same_Some P x h) (
         (refl, refl, refl),
-        subst (λ (b : Ahead). Holds b (P ∷ before))
+        subst (λ (b : SendProgress). Holds b (P ∷ before))
             (sym (ap (λ (c : Bool). if c then record a { fresh = a.fresh - 1 } else record a { far = suc (max a.far n.next) }) c_is)) (
               base,
               (
@@ -75,7 +75,7 @@ module _ (n : Needs) where
       let far : max a.far n.next < n.cycles = ltb-true (max a.far n.next) n.cycles within.1 in
       subst (After a before) (same_Some P x h) (
         (refl, refl, refl),
-        subst (λ (b : Ahead). Holds b (P ∷ before))
+        subst (λ (b : SendProgress). Holds b (P ∷ before))
             (sym (ap (λ (c : Bool). if c then record a { fresh = a.fresh - 1 } else record a { far = suc (max a.far n.next) }) c_is)) (
               (if nat_lt a.far n.next then n.next else base),
               (
@@ -89,13 +89,13 @@ module _ (n : Needs) where
       )
   step_by a base before x false true false g p tr le near c_is q_is h = none_is_some x (After a before x) h
 
-  pub steps : (a : Ahead) (base : ℕ) (before : List Kind) (x : Kind) → a.generation ≡ n.generation → a.touched ≡ n.touched → T a base before → base ≤ n.next → a.far ≤ n.cycles →
+  pub steps : (a : SendProgress) (base : ℕ) (before : List Kind) (x : Kind) → a.generation ≡ n.generation → a.touched ≡ n.touched → T a base before → base ≤ n.next → a.far ≤ n.cycles →
       now_due n a ≡ Some x → After a before x
   steps a base before x g p tr le near h = step_by a base before x (nat_lt n.next a.fresh) (a.mark == suc n.edition)
       (nat_lt (max a.far n.next) (n.next + n.depth) && nat_lt (max a.far n.next) n.cycles) g p tr le near refl refl h
 
   -- what a step leaves as it was
-  keeps_generation : (a : Ahead) (x : Kind) → (advanced n.next a x).generation ≡ a.generation
+  keeps_generation : (a : SendProgress) (x : Kind) → (advanced n.next a x).generation ≡ a.generation
   keeps_generation a (Piece t g s p) = by_test (nat_lt n.next a.fresh) where
     by_test : (c : Bool) → (if c then record a { fresh = a.fresh - 1 } else record a { far = suc (max a.far n.next) }).generation ≡ a.generation
     by_test true = refl
@@ -103,7 +103,7 @@ module _ (n : Needs) where
   keeps_generation a (Settled k g s) = refl
   keeps_generation a Blank = refl
 
-  keeps_touched : (a : Ahead) (x : Kind) → (advanced n.next a x).touched ≡ a.touched
+  keeps_touched : (a : SendProgress) (x : Kind) → (advanced n.next a x).touched ≡ a.touched
   keeps_touched a (Piece t g s p) = by_test (nat_lt n.next a.fresh) where
     by_test : (c : Bool) → (if c then record a { fresh = a.fresh - 1 } else record a { far = suc (max a.far n.next) }).touched ≡ a.touched
     by_test true = refl
@@ -111,7 +111,7 @@ module _ (n : Needs) where
   keeps_touched a (Settled k g s) = refl
   keeps_touched a Blank = refl
 
-  keeps_mark : (a : Ahead) (before : List Kind) (x : Kind) → a.mark ≡ next_mark before → (advanced n.next a x).mark ≡ next_mark (x ∷ before)
+  keeps_mark : (a : SendProgress) (before : List Kind) (x : Kind) → a.mark ≡ next_mark before → (advanced n.next a x).mark ≡ next_mark (x ∷ before)
   keeps_mark a before (Piece t g s p) same = by_test (nat_lt n.next a.fresh) where
     by_test : (c : Bool) → (if c then record a { fresh = a.fresh - 1 } else record a { far = suc (max a.far n.next) }).mark ≡ next_mark before
     by_test true = same
@@ -125,22 +125,22 @@ module _ (s : Session) (edits : List Edit) (cycles t : ℕ) (acks : List Ack) wh
   abbrev N : Needs
   N = needs s edits cycles t (length edits) acks
 
-  abbrev St : Ahead → List Kind → Type 0
+  abbrev St : SendProgress → List Kind → Type 0
   St = StandsFor s edits cycles t acks
 
-  tracked_here : (a : Ahead) (before : List Kind) (st : St a before) → Tracked N.generation N.touched st.base a.fresh a.far before
+  tracked_here : (a : SendProgress) (before : List Kind) (st : St a before) → Tracked N.generation N.touched st.base a.fresh a.far before
   tracked_here a before st = subst (λ g. Tracked g N.touched st.base a.fresh a.far before) st.generation_is
       (subst (λ p. Tracked a.generation p st.base a.fresh a.far before) st.touched_is st.tracked)
 
-  passed_here : (a : Ahead) (before : List Kind) (st : St a before) → st.base ≤ N.next
+  passed_here : (a : SendProgress) (before : List Kind) (st : St a before) → st.base ≤ N.next
   passed_here a before st = subst (λ g. st.base ≤ next_block acks g) st.generation_is st.passed
 
   -- the numbers say what is due
-  pub due_is : (a : Ahead) (before : List Kind) → St a before → due s edits cycles t (length edits) acks before ≡ now_due N a
+  pub due_is : (a : SendProgress) (before : List Kind) → St a before → due s edits cycles t (length edits) acks before ≡ now_due N a
   due_is a before st = due_after_is N st.base a.fresh a.far before (tracked_here a before st) (passed_here a before st)
       ∙ ap (λ m. due_now N m a.fresh a.far) (marked_is s edits t (length edits) before st.kept.in_order st.kept.from ∙ ap (λ m. m == suc (length edits)) (sym st.mark_is))
 
-  step_stands : (a : Ahead) (before : List Kind) (x : Kind) → St a before → now_due N a ≡ Some x → St (advanced N.next a x) (x ∷ before) × Names N x
+  step_stands : (a : SendProgress) (before : List Kind) (x : Kind) → St a before → now_due N a ≡ Some x → St (advanced N.next a x) (x ∷ before) × Names N x
   step_stands a before x st h = let after = steps N a st.base before x st.generation_is st.touched_is st.tracked (passed_here a before st) st.near h in
       let same = keeps_generation N a x in (
         record {
@@ -161,9 +161,9 @@ module _ (s : Session) (edits : List Edit) (cycles t : ℕ) (acks : List Ack) wh
   AllNamed (x ∷ xs) = Names N x × AllNamed xs
 
   -- a run sends what is due, and then the numbers stand for all of it
-  pub run_stands : (a b : Ahead) (before xs : List Kind) → St a before → IsRun N a xs b →
+  pub run_stands : (a b : SendProgress) (before xs : List Kind) → St a before → AreDueInOrder N a xs b →
       AreDue s edits cycles t acks before xs × St b (reverse xs ++ before) × AllNamed xs
-  run_stands a b before [] st run = (tt, subst (λ (z : Ahead). St z before) (sym run) st, tt)
+  run_stands a b before [] st run = (tt, subst (λ (z : SendProgress). St z before) (sym run) st, tt)
   run_stands a b before (x ∷ xs) st run = let step = step_stands a before x st run.0 in let rest = run_stands (advanced N.next a x) b (x ∷ before) xs step.0 run.1 in
       let onto : reverse xs ++ (x ∷ before) ≡ reverse (x ∷ xs) ++ before = sym (ap (λ l. l ++ before) (reverse-append (x ∷ []) xs) ∙ append_assoc (reverse xs) (x ∷ []) before) in
       ((due_is a before st ∙ run.0, rest.0), subst (St b) onto rest.1, (step.1, rest.2))

@@ -6,7 +6,7 @@ use Rattle.session_model.specs.declared.edit.Edit.{Edit}
 use Rattle.disk_ring.specs.Sender.{Sender}
 use Rattle.piece_item.specs.declared.item.Item.{Item}
 use Rattle.piece_item.specs.declared.butler_ends.ButlerEnds.{ButlerEnds}
-use Rattle.butler.specs.Seen.{Rested, resumed}
+use Rattle.butler.specs.ButlerState.{Rested, resumed}
 use Rattle.butler.specs.Serving.{IsServing, AreStocked, AreGenuine}
 
 -- the ends changed only in what they were told

@@ -3,10 +3,10 @@ use Rattle.std.specs.Prelude.{◌≡◌, ℕ, ◌<◌, ◌≤◌, ℤ, pos, true
 use Rattle.sound_model.specs.Regions.{Region}
 use Rattle.session_model.specs.Region.{IsRegion}
 use Rattle.engine_model.specs.PlainSession.{is_plain_region}
-use Rattle.audio_source.specs.Opened.{Opened, channels_of}
+use Rattle.audio_source.specs.Opened.{OpenedSource, channels_of}
 
 -- A region that is heard as its source is, which is among the opened ones.
-pub record IsHeard (opened : List Opened) (r : Region) : Type 0 where
+pub record IsHeardPlainly (opened : List OpenedSource) (r : Region) : Type 0 where
   pub limits : IsRegion r
   pub plain : is_plain_region r ≡ true
   pub source : r.source < length opened

@@ -13,21 +13,21 @@ use Rattle.engine_model.specs.Played.{samples_of, IsGenuine}
 use Rattle.engine_laws.specs.Kept.{Kept}
 use Rattle.engine_laws.specs.Tracked.{Tracked}
 use Rattle.engine_laws.specs.Marks.{next_mark}
-use Rattle.edition_log.specs.Seen.{Seen as Edition, IsEditionOf}
-use Rattle.audio_source.specs.Opened.{Opened, IsListed}
+use Rattle.edition_log.specs.EditionState.{EditionState as Edition, IsEditionOf}
+use Rattle.audio_source.specs.Opened.{OpenedSource, IsListed}
 use Rattle.disk_ring.specs.Sender.{Sender}
 use Rattle.piece_item.specs.declared.item.Item.{Item}
 use Rattle.piece_item.specs.declared.butler_ends.ButlerEnds.{ButlerEnds}
 use Rattle.piece_item.specs.Views.{item_of}
-use Rattle.butler.specs.declared.ahead.Ahead.{Ahead}
-use Rattle.butler.specs.declared.supply.Supply.{Supply}
+use Rattle.butler.specs.declared.progress.SendProgress.{SendProgress}
+use Rattle.butler.specs.declared.supply.TrackSupply.{TrackSupply}
 use Rattle.butler.specs.Sends.{kinds, acks_of}
 use Rattle.butler.specs.Serves.{HasSpare}
 use Rattle.butler.specs.Table.{IsTable}
-use Rattle.butler.specs.Seen.{Seen}
+use Rattle.butler.specs.ButlerState.{ButlerState}
 
 -- The numbers of track t stand for what was sent of it, the newest first, in the edition of these edits.
-pub record StandsFor (s : Session) (edits : List Edit) (cycles t : ℕ) (acks : List Ack) (a : Ahead) (before : List Kind) : Type 0 where
+pub record StandsFor (s : Session) (edits : List Edit) (cycles t : ℕ) (acks : List Ack) (a : SendProgress) (before : List Kind) : Type 0 where
   -- what was sent is ordered, and from editions that were entered
   pub kept : Kept s edits t (length edits) before
   pub generation_is : a.generation ≡ generation edits (length edits)
@@ -42,19 +42,19 @@ pub record StandsFor (s : Session) (edits : List Edit) (cycles t : ℕ) (acks : 
   pub near : a.far ≤ cycles
 
 -- track t is tended: its ring is the session's, and closed exactly where a read failed
-pub record IsTended (s : Session) (edits : List Edit) (cycles t : ℕ) (acks : List Ack) (failed : Bool) (p : Supply) (d : Sender Item) : Type 0 where
+pub record IsTended (s : Session) (edits : List Edit) (cycles t : ℕ) (acks : List Ack) (failed : Bool) (p : TrackSupply) (d : Sender Item) : Type 0 where
   pub depth : d.depth ≡ s.depth
   pub room : d.room ≡ s.block * channels_at s t
   pub closed : d.closed ≡ failed
-  pub stands : StandsFor s edits cycles t acks p.ahead (reverse (kinds d.sent))
+  pub stands : StandsFor s edits cycles t acks p.progress (reverse (kinds d.sent))
 
 -- each track has a supply, with a box that fits its ring
-pub record AreStocked (supplies : List Supply) (sends : List (Sender Item)) : Type 0 where
+pub record AreStocked (supplies : List TrackSupply) (sends : List (Sender Item)) : Type 0 where
   pub many : length supplies ≡ length sends
-  pub each : (t : ℕ) (p : Supply) (d : Sender Item) → slice_get supplies t ≡ Some p → slice_get sends t ≡ Some d → HasSpare p d
+  pub each : (t : ℕ) (p : TrackSupply) (d : Sender Item) → slice_get supplies t ≡ Some p → slice_get sends t ≡ Some d → HasSpare p d
 
 -- It serves the session, and these are the edits that it entered last.
-pub record IsServing {V : Type 0} (s : Session) (edits : List Edit) (b : Seen V) : Type 0 where
+pub record IsServing {V : Type 0} (s : Session) (edits : List Edit) (b : ButlerState V) : Type 0 where
   pub plain : is_plain s ≡ true
   pub valid : IsValid s
   -- a ring for each track
@@ -69,7 +69,7 @@ pub record IsServing {V : Type 0} (s : Session) (edits : List Edit) (b : Seen V)
   -- its table is that of the acknowledgements taken
   pub table : IsTable b.nexts (acks_of b.ends.acks.received)
   -- each track is tended
-  pub tracks : (t : ℕ) (p : Supply) (d : Sender Item) → slice_get b.supplies t ≡ Some p → slice_get b.ends.sends.items t ≡ Some d →
+  pub tracks : (t : ℕ) (p : TrackSupply) (d : Sender Item) → slice_get b.supplies t ≡ Some p → slice_get b.ends.sends.items t ≡ Some d →
       IsTended s edits b.cycles t (acks_of b.ends.acks.received) b.failed p d
 
 -- each item sent is genuine, for every track
@@ -87,7 +87,7 @@ pub record IsNewSender (depth room : ℕ) (d : Sender Item) : Type 0 where
   pub not_closed : d.closed ≡ false
 
 -- What a butler may begin with: an edition of a plain session, its sources, and the ends of new rings, one for each track.
-pub record MayBegin (s : Session) (e : Edition) (sources : List Opened) (cycles : ℕ) (ends : ButlerEnds) : Type 0 where
+pub record MayBegin (s : Session) (e : Edition) (sources : List OpenedSource) (cycles : ℕ) (ends : ButlerEnds) : Type 0 where
   pub plain : is_plain s ≡ true
   pub edition_of : IsEditionOf s e
   pub sources_of : IsListed s.rate s.sources.items sources
@@ -100,14 +100,14 @@ pub record MayBegin (s : Session) (e : Edition) (sources : List Opened) (cycles 
   pub not_ended : ends.acks.ended ≡ false
 
 -- of each track nothing was sent, and there is a box of one block
-pub record AreFirst (e : Edition) (supplies : List Supply) : Type 0 where
+pub record AreFirst (e : Edition) (supplies : List TrackSupply) : Type 0 where
   pub many : length supplies ≡ length e.session.tracks.items
-  pub each : (t : ℕ) (p : Supply) → slice_get supplies t ≡ Some p →
-      (p.ahead ≡ record { generation = e.transport.generation; touched = slice_index_or e.touched t 0; fresh = 0; far = 0; mark = 0 })
+  pub each : (t : ℕ) (p : TrackSupply) → slice_get supplies t ≡ Some p →
+      (p.progress ≡ record { generation = e.transport.generation; touched = slice_index_or e.touched t 0; fresh = 0; far = 0; mark = 0 })
       × IsSomeAnd p.spare (λ b. length b.value.samples.items ≡ e.session.block)
 
 -- it has what it was given, and no read failed
-pub record IsGiven {V : Type 0} (media : V) (sources : List Opened) (cycles : ℕ) (ends : ButlerEnds) (b : Seen V) : Type 0 where
+pub record IsGiven {V : Type 0} (media : V) (sources : List OpenedSource) (cycles : ℕ) (ends : ButlerEnds) (b : ButlerState V) : Type 0 where
   pub media_is : b.media ≡ media
   pub sources_is : b.sources ≡ sources
   pub cycles_is : b.cycles ≡ cycles

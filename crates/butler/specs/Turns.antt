@@ -1,25 +1,46 @@
 -- What a turn does.
-use Rattle.std.specs.Prelude.{◌≡◌, ℕ, ◌+◌, ◌<◌, ◌≤◌, true, List, length, slice_get, sum_by, Some, Result, Ok, Err}
+use Rattle.std.specs.Prelude.{◌≡◌, ℕ, ◌+◌, ◌<◌, ◌≤◌, true, if◌then◌else◌, is_err, List, length, slice_get, sum_by, Some, Result, Ok, Err}
 use mathlib.Core.List.{IsPrefix}
+use Rattle.ses_io.specs.Outside.{MediaOutside, OnlyReads}
+use Rattle.sound_model.specs.Regions.{Sounds}
 use Rattle.session_model.specs.declared.session.Session.{Session}
 use Rattle.session_model.specs.declared.edit.Edit.{Edit}
 use Rattle.engine_model.specs.Due.{Ack}
-use Rattle.edition_log.specs.Seen.{Seen as Edition, IsEditionOf}
+use Rattle.edition_log.specs.EditionState.{EditionState as Edition, IsEditionOf}
+use Rattle.edition_log.specs.Entered.{Entered}
+use Rattle.audio_source.specs.Told.{source_sound}
 use Rattle.disk_ring.specs.Sender.{Sender}
 use Rattle.piece_item.specs.declared.item.Item.{Item}
 use Rattle.butler.specs.declared.turning.Turn.{Turn}
 use Rattle.butler.specs.declared.turning.Turn.TheVariants.{Moved, Idle}
 use Rattle.butler.specs.declared.faults.ButlerFault.{ButlerFault}
 use Rattle.butler.specs.declared.faults.ButlerFault.TheVariants.{ReadFault}
-use Rattle.butler.specs.Sends.{IsDone}
-use Rattle.butler.specs.Seen.{Seen}
-use Rattle.butler.specs.Serving.{IsServing}
+use Rattle.butler.specs.Sends.{acks_of, SendsOf, IsDone}
+use Rattle.butler.specs.ButlerState.{ButlerState}
+use Rattle.butler.specs.Serving.{IsServing, AreGenuine}
 
--- the butler serves this session, and the edition is one of it whose list begins with the edits entered last
-pub record Enters {V : Type 0} (s : Session) (before : List Edit) (b : Seen V) (e : Edition) : Type 0 where
-  pub serving : IsServing s before b
-  pub edition_of : IsEditionOf s e
-  pub grows : IsPrefix before e.edits
+-- the butler may enter the edition
+pub record Enters {V : Type 0} (at : Entered) (b : ButlerState V) (e : Edition) : Type 0 where
+  -- it serves the session, and these are the edits that it entered last
+  pub serving : IsServing at.session at.edits b
+  -- the edition is one of the session
+  pub edition_of : IsEditionOf at.session e
+  -- and its list begins with them
+  pub grows : IsPrefix at.edits e.edits
+
+-- of each track a turn sent what was due, by the edition that was entered and the acknowledgements that were taken
+abbrev pub AllSend : {V : Type 0} → Session → Edition → ButlerState V → ButlerState V → Type 0
+AllSend s e old new = (t : ℕ) (d f : Sender Item) → slice_get old.ends.sends.items t ≡ Some d → slice_get new.ends.sends.items t ≡ Some f →
+    SendsOf s e.edits old.cycles t (acks_of new.ends.acks.received) d f
+
+-- the sounds of what a butler reads from
+abbrev pub sounds_read : {V : Type 0} → MediaOutside V → ButlerState V → Sounds
+sounds_read outside b = source_sound (outside.files b.media) b.sources
+
+-- where all that was sent before was genuine, so is all that was sent now
+abbrev pub StaysGenuine : {V : Type 0} → MediaOutside V → Entered → Edition → ButlerState V → ButlerState V → Type 0
+StaysGenuine outside at e old new = AreGenuine (sounds_read outside old) at.session at.edits old.ends.sends.items →
+    AreGenuine (sounds_read outside old) at.session e.edits new.ends.sends.items
 
 -- how many items were sent, over all tracks
 abbrev pub total_sent : List (Sender Item) → ℕ
@@ -41,20 +62,36 @@ pub record Leaves (s : Session) (edits : List Edit) (cycles : ℕ) (acks : List 
 abbrev pub AreClosed : List (Sender Item) → Type 0
 AreClosed sends = (t : ℕ) (d : Sender Item) → slice_get sends t ≡ Some d → d.closed ≡ true
 
--- what a turn answers
-abbrev pub Answers : Session → List Edit → ℕ → List Ack → ℕ → List (Sender Item) → Result Turn ButlerFault → List (Sender Item) → Type 0
-Answers s edits cycles acks most old (Ok (Moved n)) new = (1 ≤ n) × Leaves s edits cycles acks most n old new
-Answers s edits cycles acks most old (Ok Idle) new = Leaves s edits cycles acks most 0 old new
-Answers s edits cycles acks most old (Err ReadFault) new = AreClosed new
+-- what a turn answers, by what its rings were and are
+abbrev pub TurnAnswers : Session → List Edit → ℕ → List Ack → ℕ → List (Sender Item) → Result Turn ButlerFault → List (Sender Item) → Type 0
+TurnAnswers s edits cycles acks most old (Ok (Moved n)) new = (1 ≤ n) × Leaves s edits cycles acks most n old new
+TurnAnswers s edits cycles acks most old (Ok Idle) new = Leaves s edits cycles acks most 0 old new
+TurnAnswers s edits cycles acks most old (Err ReadFault) new = AreClosed new
+
+-- and by the two states
+abbrev pub Answers : {V : Type 0} → Session → Edition → ℕ → ButlerState V → Result Turn ButlerFault → ButlerState V → Type 0
+Answers s e most old answer new = TurnAnswers s e.edits old.cycles (acks_of new.ends.acks.received) most old.ends.sends.items answer new.ends.sends.items
 
 -- once a read has failed, a turn sends nothing, reads nothing and is Idle
-pub record IsQuiet {V : Type 0} (old : Seen V) (answer : Result Turn ButlerFault) (new : Seen V) : Type 0 where
+pub record IsQuiet {V : Type 0} (old : ButlerState V) (answer : Result Turn ButlerFault) (new : ButlerState V) : Type 0 where
   pub idle : answer ≡ Ok Idle
   pub sends : new.ends.sends ≡ old.ends.sends
   pub media : new.media ≡ old.media
 
+-- what a failed read leaves
+pub record Fails {V : Type 0} (old : ButlerState V) (answer : Result Turn ButlerFault) (new : ButlerState V) : Type 0 where
+  -- the flag is raised by a fault, and never falls
+  pub failed : new.failed ≡ (if is_err answer then true else old.failed)
+  -- and once it is raised nothing happens any more
+  pub quiet : old.failed ≡ true → IsQuiet old answer new
+
 -- what no turn changes
-pub record KeepsRest {V : Type 0} (old new : Seen V) : Type 0 where
+pub record KeepsRest {V : Type 0} (outside : MediaOutside V) (old new : ButlerState V) : Type 0 where
+  -- what it reads by
   pub sources : new.sources ≡ old.sources
+  -- how many cycles were asked
   pub cycles : new.cycles ≡ old.cycles
+  -- the ends that take blocks in
   pub takes : new.ends.takes ≡ old.ends.takes
+  -- the media's files, and its count of failed writes
+  pub only_reads : OnlyReads outside old.media new.media

@@ -1,9 +1,8 @@
 //! Acknowledgements are taken, and of each generation the greatest next block is kept.
-ghost use Rattle.std.specs.Prelude.{◌≡◌, ◌++◌, ◌∷◌, [], List, length, slice_index_or};
-ghost use Rattle.engine_model.specs.Due.{Ack as Acknowledged};
+ghost use Rattle.std.specs.Prelude.{◌≡◌, ◌≤◌, length, slice_index_or};
 ghost use Rattle.piece_item.specs.Views.{ack_of};
 ghost use Rattle.butler.specs.Sends.{acks_of};
-ghost use Rattle.butler.specs.Table.{IsTable, TakesAll};
+ghost use Rattle.butler.specs.Table.{IsTable, Notes, TakesAll};
 
 use disk_ring::{Nothing, RingOut};
 use edition_log::Edition;
@@ -11,8 +10,7 @@ use piece_item::Ack;
 
 /// Notes an acknowledgement. A generation that the table doesn't have is left out.
 fn note(nexts: &mut [u32], ack: &Ack)
-    ensures { (acks : List Acknowledged) → IsTable nexts.old acks
-        → IsTable nexts.new (acks ++ ack_of ack.now ∷ []) }
+    ensures { Notes (ack_of ack.now) nexts.old nexts.new }
 {
     let generation = ack.generation as usize;
     if generation < nexts.len() {
@@ -47,10 +45,9 @@ pub(crate) fn accept(
 
 /// The next block of an edition's generation, by the table.
 pub(crate) fn next_of(nexts: &[u32], e: &Edition) -> u32
-    requires { length nexts.now ≡ 10001 }
+    requires generations { length nexts.now ≡ 10001 }
+    requires few { e.now.transport.generation ≤ 10000 }
     ensures { result ≡ slice_index_or nexts.now e.now.transport.generation 0 }
 {
-    // The edition's generation is at most the number of its edits.
-    let _seen = e.session();
     nexts[e.transport().generation as usize]
 }

@@ -1,25 +1,24 @@
 //! A butler: in a turn it takes acknowledgements, enters the edition, and sends what is due of each track.
-ghost use Rattle.std.specs.Prelude.{◌≡◌, ◌<◌, ℕ, true, false, if◌then◌else◌, is_err, List, length, IfOk, IfErr, slice_get, Some};
-ghost use mathlib.Core.List.{IsPrefix};
+ghost use Rattle.std.specs.Prelude.{◌≡◌, ◌<◌, false, length, IfOk, IfErr, Some};
 ghost use Rattle.ses_io.specs.Faults.{HasCause};
+ghost use Rattle.ses_io.specs.Outside.{OnlyReads};
 ghost use Rattle.session_model.specs.declared.session.Session.{Session as Opening};
-ghost use Rattle.session_model.specs.declared.edit.Edit.{Edit};
 ghost use Rattle.audio_source.specs.Told.{source_sound};
-ghost use Rattle.disk_ring.specs.Sender.{Sender};
-ghost use Rattle.piece_item.specs.declared.item.Item.{Item as Sent};
-ghost use Rattle.edition_log.specs.Seen.{IsSeen};
-ghost use Rattle.butler.specs.Sends.{acks_of, SendsOf};
+ghost use Rattle.edition_log.specs.EditionState.{IsEditionState};
+ghost use Rattle.edition_log.specs.Entered.{Entered};
+ghost use Rattle.butler.specs.Sends.{acks_of};
 ghost use Rattle.butler.specs.Table.{IsTable, TakesAll};
-ghost use Rattle.butler.specs.Serving.{IsServing, AreGenuine, AreStocked, MayBegin, IsGiven};
+ghost use Rattle.butler.specs.Serving.{IsServing, AreStocked, MayBegin, IsGiven};
 ghost use Rattle.butler.specs.Serves.{AreEntered, IsReady, AllStocked};
-ghost use Rattle.butler.specs.Turns.{Enters, Answers, IsQuiet, KeepsRest};
-ghost use Rattle.butler.specs.Outcomes.{Outcome};
+ghost use Rattle.butler.specs.Turns.{Enters, AllSend, StaysGenuine, Answers, Fails, KeepsRest};
+ghost use Rattle.butler.specs.Outcomes.{pass_of, Outcome};
 
 use crate::accepting::{accept, next_of};
-use crate::beginning::{husk, supplies, table};
+use crate::beginning::{supplies, table};
 use crate::faults::ButlerFault;
+use crate::pass::Pass;
 use crate::serving::{enter_all, send_all};
-use crate::supply::{Shelf, Supply};
+use crate::supply::{Holdings, SourceReader};
 use crate::turning::Turn;
 use audio_source::Sources;
 use edition_log::Edition;
@@ -31,27 +30,20 @@ use std::marker::Model;
 /// Reads ahead and sends. Between two calls it has one spare box for each ring.
 #[derive(Drop)]
 pub struct Butler<M> {
-    pub(crate) shelf: Shelf<M>,
-    pub(crate) cycles: u32,
+    pub(crate) holds: Holdings<M>,
     pub(crate) ends: ButlerEnds,
-    pub(crate) supplies: Vec<Supply>,
-    pub(crate) nexts: Vec<u32>,
-    pub(crate) husk: Option<Box<Ack>>,
-    // Whether the ring of acknowledgements has answered Closed.
-    pub(crate) ended: bool,
-    pub(crate) failed: bool,
 }
 
 impl<M> Model for Butler<M> {
     ghost use Rattle.std.specs.Prelude.{◌≡◌, length, IsSome};
-    ghost use Rattle.butler.specs.Seen.{Seen};
+    ghost use Rattle.butler.specs.ButlerState.{ButlerState};
     ghost use Rattle.butler.specs.Serving.{AreStocked};
 
-    ghost Value = { Seen M };
+    ghost Value = { ButlerState M };
 
-    ghost view = { λ b. record { media = b.shelf.media; sources = b.shelf.sources; cycles = b.cycles; ends = b.ends; supplies = b.supplies.items; nexts = b.nexts.items; failed = b.failed } };
+    ghost view = { λ b. record { media = b.holds.reader.media; sources = b.holds.reader.sources; cycles = b.holds.cycles; ends = b.ends; supplies = b.holds.supplies.items; nexts = b.holds.nexts.items; failed = b.holds.failed } };
 
-    ghost invariant = { λ b. AreStocked b.supplies.items b.ends.sends.items × (length b.nexts.items ≡ 10001) × IsSome b.husk × (b.ended ≡ b.ends.acks.ended) };
+    ghost invariant = { λ b. AreStocked b.holds.supplies.items b.ends.sends.items × (length b.holds.nexts.items ≡ 10001) × IsSome b.holds.husk × (b.holds.ended ≡ b.ends.acks.ended) };
 }
 
 impl<M: Media> Butler<M> {
@@ -64,9 +56,9 @@ impl<M: Media> Butler<M> {
         cycles: u32,
         ends: ButlerEnds,
     ) -> Result<Butler<M>, M>
-        requires { (s : Opening) × MayBegin s e.now sources cycles ends }
-        ensures serving { IfOk result (λ b. (s : Opening) → MayBegin s e.now sources cycles ends
-            → IsServing s e.now.edits b) }
+        ghost s: { Opening }
+        requires { MayBegin s e.now sources cycles ends }
+        ensures serving { IfOk result (IsServing s e.now.edits) }
         ensures given { IfOk result (IsGiven media sources cycles ends) }
         ensures back { IfErr result (λ m. m ≡ media) }
     {
@@ -76,45 +68,35 @@ impl<M: Media> Butler<M> {
         let Ok(nexts) = table(alloc) else {
             return Err(media);
         };
-        let Ok(husk) = husk(alloc) else {
+        let Ok(husk) = Ack::blank(alloc) else {
             return Err(media);
         };
-        Ok(Butler {
-            shelf: Shelf { media, sources },
+        let holds = Holdings {
+            reader: SourceReader { media, sources },
             cycles,
-            ends,
             supplies,
             nexts,
             husk: Some(husk),
             ended: false,
             failed: false,
-        })
+        };
+        Ok(Butler { holds, ends })
     }
 
     /// Takes acknowledgements until there is none, enters the edition, and sends what is due of each track in order, at
     /// most so many items. It takes no memory. After a fault all playback rings are closed, and further turns send nothing.
     pub fn turn(&mut self, e: &Edition, most: u32) -> Result<Turn, ButlerFault>
-        requires enters { (s : Opening) × ((before : List Edit) × Enters s before self.old e.now) }
+        ghost at: { Entered }
+        requires enters { Enters at self.old e.now }
         requires some { 0 < most }
-        ensures serving { (s : Opening) (before : List Edit) → Enters s before self.old e.now
-            → IsServing s e.now.edits self.new }
-        ensures sends { (s : Opening) (before : List Edit) → Enters s before self.old e.now
-            → (t : ℕ) (d f : Sender Sent) → slice_get self.old.ends.sends.items t ≡ Some d
-            → slice_get self.new.ends.sends.items t ≡ Some f
-            → SendsOf s e.now.edits self.old.cycles t (acks_of self.new.ends.acks.received) d f }
-        ensures genuine { M.tells → (s : Opening) (before : List Edit) → Enters s before self.old e.now
-            → AreGenuine (source_sound (M.files self.old.media) self.old.sources) s before self.old.ends.sends.items
-            → AreGenuine (source_sound (M.files self.old.media) self.old.sources) s e.now.edits self.new.ends.sends.items }
+        ensures serving { IsServing at.session e.now.edits self.new }
+        ensures sends { AllSend at.session e.now self.old self.new }
+        ensures genuine { M.outside.tells → StaysGenuine M.outside at e.now self.old self.new }
         ensures acks { TakesAll self.old.ends.acks self.new.ends.acks }
-        ensures answer { (s : Opening) (before : List Edit) → Enters s before self.old e.now
-            → Answers s e.now.edits self.old.cycles (acks_of self.new.ends.acks.received) most
-            self.old.ends.sends.items result self.new.ends.sends.items }
-        ensures failed { self.new.failed ≡ (if is_err result then true else self.old.failed) }
-        ensures quiet { self.old.failed ≡ true → IsQuiet self.old result self.new }
-        ensures rest { KeepsRest self.old self.new }
-        ensures files { M.files self.new.media ≡ M.files self.old.media }
-        ensures cause { HasCause (M.read_faults self.old.media) (M.read_faults self.new.media) result }
-        ensures other_count { M.write_faults self.new.media ≡ M.write_faults self.old.media }
+        ensures answer { Answers at.session e.now most self.old result self.new }
+        ensures failed { Fails self.old result self.new }
+        ensures rest { KeepsRest M.outside self.old self.new }
+        ensures cause { HasCause (M.outside.read_faults self.old.media) (M.outside.read_faults self.new.media) result }
     {
         self.accept();
         self.enter(e);
@@ -132,12 +114,12 @@ impl<M: Media> Butler<M> {
           nexts = self.new.nexts;
         } }
     {
-        let Some(husk) = self.husk.take() else {
+        let Some(husk) = self.holds.husk.take() else {
             unreachable!()
         };
-        let (husk, ended) = accept(&mut self.ends.acks, husk, &mut self.nexts);
-        self.husk = Some(husk);
-        self.ended = ended;
+        let (husk, ended) = accept(&mut self.ends.acks, husk, &mut self.holds.nexts);
+        self.holds.husk = Some(husk);
+        self.holds.ended = ended;
     }
 
     // Enters an edition for each track.
@@ -146,19 +128,20 @@ impl<M: Media> Butler<M> {
         ensures entered { AreEntered e.now self.old.supplies self.new.supplies }
         ensures same { self.new ≡ record self.old { supplies = self.new.supplies } }
         ensures stocked { AreStocked self.new.supplies self.new.ends.sends.items }
-        ensures seen { IsSeen e.now }
+        ensures seen { IsEditionState e.now }
     {
-        enter_all(e, &mut self.supplies);
+        enter_all(e, &mut self.holds.supplies);
     }
 
     // Sends what is due, at most so many items, unless a read failed before.
     fn send(&mut self, e: &Edition, most: u32) -> Result<Turn, ButlerFault>
-        requires ready { IsReady self.old.sources e.now self.old.cycles }
+        requires seen { IsEditionState e.now }
+        requires ready { IsReady self.old.sources (pass_of e.now self.old) }
         requires tracks { length self.old.supplies ≡ length e.now.session.tracks.items }
         requires stocked { self.old.failed ≡ false
             → AllStocked e.now.session.block self.old.supplies self.old.ends.sends.items }
         requires some { 0 < most }
-        ensures outcome { Outcome M.tells (source_sound (M.files self.old.media) self.old.sources)
+        ensures outcome { Outcome M.outside.tells (source_sound (M.outside.files self.old.media) self.old.sources)
             e.now most self.old result self.new }
         ensures rest { self.new ≡ record self.old {
           media = self.new.media;
@@ -166,25 +149,21 @@ impl<M: Media> Butler<M> {
           supplies = self.new.supplies;
           failed = self.new.failed;
         } }
-        ensures files { M.files self.new.media ≡ M.files self.old.media }
-        ensures cause { HasCause (M.read_faults self.old.media) (M.read_faults self.new.media) result }
-        ensures other_count { M.write_faults self.new.media ≡ M.write_faults self.old.media }
+        ensures only_reads { OnlyReads M.outside self.old.media self.new.media }
+        ensures cause { HasCause (M.outside.read_faults self.old.media) (M.outside.read_faults self.new.media) result }
     {
-        if self.failed {
+        let holds = &mut self.holds;
+        if holds.failed {
             return Ok(Turn::Idle);
         }
-        let next = next_of(&self.nexts, e);
+        let pass = Pass {
+            edition: e,
+            next: next_of(&holds.nexts, e),
+            cycles: holds.cycles,
+        };
         let sends = self.ends.sends.as_mut_slice();
-        let answer = send_all(
-            &mut self.shelf,
-            e,
-            next,
-            self.cycles,
-            &mut self.supplies,
-            sends,
-            most,
-        );
-        self.failed = answer.is_err();
+        let answer = send_all(&mut holds.reader, &pass, &mut holds.supplies, sends, most);
+        holds.failed = answer.is_err();
         answer
     }
 }

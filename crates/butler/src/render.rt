@@ -2,6 +2,7 @@
 //! read by runs of places that follow one another.
 ghost use Rattle.std.specs.Prelude.{◌≡◌, ◌≢◌, ℕ, ◌+◌, ◌-◌, ◌<◌, ◌≤◌, ◌^◌, true, List, [], ◌∷◌, length, MatchOption, IfSome, OnOk};
 ghost use Rattle.ses_io.specs.Faults.{HasCause};
+ghost use Rattle.ses_io.specs.Outside.{OnlyReads};
 ghost use Rattle.sound_model.specs.Layers.{track_sample};
 ghost use Rattle.session_model.specs.Frames.{interleaved};
 ghost use Rattle.session_model.specs.Region.{region_of};
@@ -10,13 +11,11 @@ ghost use Rattle.session_model.specs.Views.{track_regions};
 ghost use Rattle.engine_model.specs.PlainSession.{is_plain};
 ghost use Rattle.engine_model.specs.Transport.{place_of};
 ghost use Rattle.locate_loop.specs.Transport.{transport_of, IsTransport, place_after};
-ghost use Rattle.audio_source.specs.Opened.{Opened, IsListed};
+ghost use Rattle.audio_source.specs.Opened.{OpenedSource, IsListed};
 ghost use Rattle.audio_source.specs.Told.{source_sound};
-ghost use Rattle.butler.specs.Render.{IsHeard};
+ghost use Rattle.butler.specs.Render.{IsHeardPlainly};
 
 mod run;
-#[cfg(test)]
-mod tests;
 
 use audio_source::{ReadFault, Sources};
 use locate_loop::Transport;
@@ -31,8 +30,9 @@ fn region_of_track(session: &Session, track: u32) -> Option<Region>
     requires track { track < length session.now.tracks.items }
     ensures regions { MatchOption result (track_regions session.now track ≡ [])
         (λ r. track_regions session.now track ≡ region_of r ∷ []) }
-    ensures heard { (opened : List Opened) → IsListed session.now.rate session.now.sources.items opened
-        → IfSome result (λ r. IsHeard opened (region_of r)) }
+    ensures heard { (opened : List OpenedSource)
+        → IsListed session.now.rate session.now.sources.items opened
+        → IfSome result (λ r. IsHeardPlainly opened (region_of r)) }
 {
     let track = &session.tracks.as_slice()[track as usize];
     track.list.regions().first().copied()
@@ -44,8 +44,10 @@ fn following(t: &Transport, place: u64, most: usize) -> usize
     requires some { 0 < most }
     ensures some { 0 < result }
     ensures most { result ≤ most }
-    ensures follow { (k : ℕ) → k + 1 < result → place_after (transport_of t.now) (place + k) ≡ place + k + 1 }
-    ensures longest { result < most → place_after (transport_of t.now) (place + result - 1) ≢ place + result }
+    ensures follow { (k : ℕ) → k + 1 < result
+        → place_after (transport_of t.now) (place + k) ≡ place + k + 1 }
+    ensures longest { result < most
+        → place_after (transport_of t.now) (place + result - 1) ≢ place + result }
 {
     match t.wrap {
         Some(w) if t.target < w.to && place < w.to => (w.to - place).min(most as u64) as usize,
@@ -62,16 +64,15 @@ fn runs<M: Media>(
     first: u64,
     out: &mut [i32],
 ) -> Result<(), ReadFault>
-    requires heard { IsHeard sources.old (region_of region.now) }
+    requires heard { IsHeardPlainly sources.old (region_of region.now) }
     requires transport { IsTransport transport.now }
     requires frames { first + length out.old < 2 ^ 30 }
-    ensures told { M.tells → OnOk result (out.new ≡ interleaved
-        (λ n c. track_sample (source_sound (M.files media.old) sources.old) (region_of region.now ∷ []) c
+    ensures told { M.outside.tells → OnOk result (out.new ≡ interleaved
+        (λ n c. track_sample (source_sound (M.outside.files media.old) sources.old) (region_of region.now ∷ []) c
         (place_of (transport_of transport.now) n)) 1 first (length out.old)) }
     ensures sources { sources.new ≡ sources.old }
-    ensures files { M.files media.new ≡ M.files media.old }
-    ensures cause { HasCause (M.read_faults media.old) (M.read_faults media.new) result }
-    ensures other_count { M.write_faults media.new ≡ M.write_faults media.old }
+    ensures only_reads { OnlyReads M.outside media.old media.new }
+    ensures cause { HasCause (M.outside.read_faults media.old) (M.outside.read_faults media.new) result }
 {
     let mut done = 0;
     while done < out.len() {
@@ -100,14 +101,13 @@ pub(crate) fn render<M: Media>(
     requires sources { IsListed session.now.rate session.now.sources.items sources.old }
     requires transport { IsTransport transport.now }
     requires frames { first + length out.old < 2 ^ 30 }
-    ensures told { M.tells → OnOk result (out.new ≡ interleaved
-        (λ n c. track_sample (source_sound (M.files media.old) sources.old) (track_regions session.now track) c
+    ensures told { M.outside.tells → OnOk result (out.new ≡ interleaved
+        (λ n c. track_sample (source_sound (M.outside.files media.old) sources.old) (track_regions session.now track) c
         (place_of (transport_of transport.now) n)) 1 first (length out.old)) }
     ensures long { length out.new ≡ length out.old }
     ensures sources { sources.new ≡ sources.old }
-    ensures files { M.files media.new ≡ M.files media.old }
-    ensures cause { HasCause (M.read_faults media.old) (M.read_faults media.new) result }
-    ensures other_count { M.write_faults media.new ≡ M.write_faults media.old }
+    ensures only_reads { OnlyReads M.outside media.old media.new }
+    ensures cause { HasCause (M.outside.read_faults media.old) (M.outside.read_faults media.new) result }
 {
     match region_of_track(session, track) {
         Some(region) => runs(sources, media, &region, transport, first, out),

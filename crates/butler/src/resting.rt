@@ -1,11 +1,11 @@
 //! A butler gives its ends out and takes them back, or gives all back.
 ghost use Rattle.std.specs.Prelude.{◌≡◌};
-ghost use Rattle.butler.specs.Seen.{rested, resumed};
+ghost use Rattle.butler.specs.ButlerState.{rested, resumed};
 ghost use Rattle.butler.specs.Serving.{AreStocked};
 
 use crate::butler::Butler;
-use crate::supply::{Shelf, Supply};
-use piece_item::{Ack, ButlerEnds};
+use crate::supply::Holdings;
+use piece_item::ButlerEnds;
 use std::marker::Model;
 
 /// What a butler gives back.
@@ -20,25 +20,18 @@ pub struct ButlerParts<M> {
 /// A butler whose ends are elsewhere.
 #[derive(Drop)]
 pub struct Resting<M> {
-    shelf: Shelf<M>,
-    cycles: u32,
-    supplies: Vec<Supply>,
-    nexts: Vec<u32>,
-    husk: Option<Box<Ack>>,
-    // Whether the ring of acknowledgements has answered Closed.
-    ended: bool,
-    failed: bool,
+    holds: Holdings<M>,
 }
 
 impl<M> Model for Resting<M> {
     ghost use Rattle.std.specs.Prelude.{◌≡◌, length, IsSome};
-    ghost use Rattle.butler.specs.Seen.{Rested};
+    ghost use Rattle.butler.specs.ButlerState.{Rested};
 
     ghost Value = { Rested M };
 
-    ghost view = { λ r. record { media = r.shelf.media; sources = r.shelf.sources; cycles = r.cycles; supplies = r.supplies.items; nexts = r.nexts.items; ended = r.ended; failed = r.failed } };
+    ghost view = { λ r. record { media = r.holds.reader.media; sources = r.holds.reader.sources; cycles = r.holds.cycles; supplies = r.holds.supplies.items; nexts = r.holds.nexts.items; ended = r.holds.ended; failed = r.holds.failed } };
 
-    ghost invariant = { λ r. (length r.nexts.items ≡ 10001) × IsSome r.husk };
+    ghost invariant = { λ r. (length r.holds.nexts.items ≡ 10001) × IsSome r.holds.husk };
 }
 
 impl<M> Butler<M> {
@@ -46,7 +39,7 @@ impl<M> Butler<M> {
     pub fn over(&self) -> bool
         ensures { result ≡ self.now.ends.acks.ended }
     {
-        self.ended
+        self.holds.ended
     }
 
     /// Gives the media and the ends back as they stand.
@@ -54,8 +47,8 @@ impl<M> Butler<M> {
         ensures media { result.media ≡ self.media }
         ensures ends { result.ends ≡ self.ends }
     {
-        let Butler { shelf, ends, .. } = self;
-        let Shelf { media, sources: _ } = shelf;
+        let Butler { holds, ends } = self;
+        let media = holds.reader.media;
         ButlerParts { media, ends }
     }
 
@@ -65,15 +58,7 @@ impl<M> Butler<M> {
         ensures ends { result.1 ≡ self.ends }
         ensures stocked { AreStocked result.0.supplies result.1.sends.items }
     {
-        let resting = Resting {
-            shelf: self.shelf,
-            cycles: self.cycles,
-            supplies: self.supplies,
-            nexts: self.nexts,
-            husk: self.husk,
-            ended: self.ended,
-            failed: self.failed,
-        };
+        let resting = Resting { holds: self.holds };
         (resting, self.ends)
     }
 }
@@ -86,14 +71,8 @@ impl<M> Resting<M> {
         ensures { result ≡ resumed self ends }
     {
         Butler {
-            shelf: self.shelf,
-            cycles: self.cycles,
+            holds: self.holds,
             ends,
-            supplies: self.supplies,
-            nexts: self.nexts,
-            husk: self.husk,
-            ended: self.ended,
-            failed: self.failed,
         }
     }
 }

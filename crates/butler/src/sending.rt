@@ -2,16 +2,17 @@
 ghost use Rattle.std.specs.Prelude.{◌≡◌, ◌<◌, ◌≤◌, ◌*◌, true, false, length, OnOk};
 ghost use Rattle.engine_model.specs.PlainSession.{is_plain};
 ghost use Rattle.ses_io.specs.Faults.{HasCause};
-ghost use Rattle.session_model.specs.Formed.{HasLimits};
+ghost use Rattle.ses_io.specs.Outside.{OnlyReads};
 ghost use Rattle.audio_source.specs.Opened.{IsListed};
 ghost use Rattle.audio_source.specs.Told.{source_sound};
 ghost use Rattle.piece_item.specs.Views.{kind_of};
-ghost use Rattle.butler.specs.Ahead.{needs_of};
-ghost use Rattle.butler.specs.Serves.{IsReady, IsStocked, IsBlockOf, Serves, HasSent, IsNear};
+ghost use Rattle.butler.specs.SendProgress.{needs_of, target_of};
+ghost use Rattle.butler.specs.Serves.{IsReady, IsStocked, IsBlockOf, Serves, HasSent, IsInReach};
 
+use crate::pass::Pass;
 use crate::render::render;
-use crate::supply::{Shelf, Supply};
-use crate::wants::Wants;
+use crate::supply::{SourceReader, TrackSupply};
+use crate::target::TrackTarget;
 use audio_source::ReadFault;
 use disk_ring::RingIn;
 use edition_log::Edition;
@@ -30,23 +31,22 @@ fn first_frame(block: u32, seq: u32) -> u64
 
 // Makes the box an item of this kind: a piece has its block of samples.
 fn fill<M: Media>(
-    shelf: &mut Shelf<M>,
+    reader: &mut SourceReader<M>,
     e: &Edition,
     kind: Kind,
     item: &mut Item,
 ) -> Result<(), ReadFault>
     requires plain { is_plain e.now.session ≡ true }
-    requires listed { IsListed e.now.session.rate e.now.session.sources.items shelf.old.sources }
-    requires near { IsNear (length e.now.session.tracks.items) (kind_of kind) }
+    requires listed { IsListed e.now.session.rate e.now.session.sources.items reader.old.sources }
+    requires near { IsInReach (length e.now.session.tracks.items) (kind_of kind) }
     requires room { length item.old.samples.items ≡ e.now.session.block }
     ensures kind { item.new.kind ≡ kind }
     ensures room { length item.new.samples.items ≡ length item.old.samples.items }
-    ensures block { M.tells → OnOk result
-        (IsBlockOf (source_sound (M.files shelf.old.media) shelf.old.sources) e.now (kind_of kind) item.new.samples.items) }
-    ensures sources { shelf.new.sources ≡ shelf.old.sources }
-    ensures files { M.files shelf.new.media ≡ M.files shelf.old.media }
-    ensures cause { HasCause (M.read_faults shelf.old.media) (M.read_faults shelf.new.media) result }
-    ensures other_count { M.write_faults shelf.new.media ≡ M.write_faults shelf.old.media }
+    ensures block { M.outside.tells → OnOk result
+        (IsBlockOf (source_sound (M.outside.files reader.old.media) reader.old.sources) e.now (kind_of kind) item.new.samples.items) }
+    ensures sources { reader.new.sources ≡ reader.old.sources }
+    ensures only_reads { OnlyReads M.outside reader.old.media reader.new.media }
+    ensures cause { HasCause (M.outside.read_faults reader.old.media) (M.outside.read_faults reader.new.media) result }
 {
     let out = item.fill_as(kind);
     let Kind::Piece { track, seq, .. } = kind else {
@@ -55,8 +55,8 @@ fn fill<M: Media>(
     let session = e.session();
     let first = first_frame(session.block, seq);
     render(
-        &mut shelf.sources,
-        &mut shelf.media,
+        &mut reader.sources,
+        &mut reader.media,
         session,
         track,
         e.transport(),
@@ -68,40 +68,39 @@ fn fill<M: Media>(
 /// Sends the item that is due, and answers whether one was sent: none is where the ring is full or nothing is due. The
 /// box that comes back, the husk or the item itself, is the spare one.
 pub(crate) fn send_next<M: Media>(
-    shelf: &mut Shelf<M>,
-    e: &Edition,
-    wants: &Wants,
-    supply: &mut Supply,
+    reader: &mut SourceReader<M>,
+    pass: &Pass,
+    track: u32,
+    supply: &mut TrackSupply,
     end: &mut RingIn<Item>,
 ) -> Result<bool, ReadFault>
-    requires ready { IsReady shelf.old.sources e.now wants.now.cycles }
-    requires track { wants.now.track < length e.now.session.tracks.items }
-    requires few { wants.now.edition ≤ 10000 }
-    requires stocked { IsStocked e.now.session.block supply.old end.old }
+    requires ready { IsReady reader.old.sources pass.now }
+    requires track { track < length pass.now.edition.session.tracks.items }
+    requires stocked { IsStocked pass.now.edition.session.block supply.old end.old }
     requires still_open { end.old.closed ≡ false }
-    ensures serves { Serves M.tells (source_sound (M.files shelf.old.media) shelf.old.sources) e.now
-        (needs_of wants.now) supply.old.ahead end.old supply.new.ahead end.new }
-    ensures answer { HasSent (needs_of wants.now) end.old supply.new.ahead end.new result }
-    ensures stocked { IsStocked e.now.session.block supply.new end.new }
-    ensures sources { shelf.new.sources ≡ shelf.old.sources }
-    ensures files { M.files shelf.new.media ≡ M.files shelf.old.media }
-    ensures cause { HasCause (M.read_faults shelf.old.media) (M.read_faults shelf.new.media) result }
-    ensures other_count { M.write_faults shelf.new.media ≡ M.write_faults shelf.old.media }
+    ensures serves { Serves M.outside.tells (source_sound (M.outside.files reader.old.media) reader.old.sources) pass.now.edition
+        (needs_of (target_of pass.now track)) supply.old.progress end.old supply.new.progress end.new }
+    ensures answer { HasSent (needs_of (target_of pass.now track)) end.old supply.new.progress end.new result }
+    ensures stocked { IsStocked pass.now.edition.session.block supply.new end.new }
+    ensures sources { reader.new.sources ≡ reader.old.sources }
+    ensures only_reads { OnlyReads M.outside reader.old.media reader.new.media }
+    ensures cause { HasCause (M.outside.read_faults reader.old.media) (M.outside.read_faults reader.new.media) result }
 {
-    let Some((kind, then)) = supply.ahead.step(wants) else {
+    let target = TrackTarget::of(pass, track);
+    let Some((kind, then)) = supply.progress.step(&target) else {
         return Ok(false);
     };
     let Some(mut item) = supply.spare.take() else {
         unreachable!()
     };
-    if let Err(fault) = fill(shelf, e, kind, &mut item) {
+    if let Err(fault) = fill(reader, pass.edition, kind, &mut item) {
         supply.spare = Some(item);
         return Err(fault);
     }
     match end.put(item) {
         Ok(husk) => {
             supply.spare = Some(husk);
-            supply.ahead = then;
+            supply.progress = then;
             Ok(true)
         }
         Err(full) => {

@@ -1,18 +1,33 @@
 //! What the butler has for one track, and what it reads from.
-use crate::ahead::Ahead;
+use crate::progress::SendProgress;
 use audio_source::Sources;
-use piece_item::Item;
+use piece_item::{Ack, Item};
 
 /// What the butler has for one track: how far ahead it is, and a box to be filled, which is taken out only within a call.
 #[derive(Drop)]
-pub(crate) struct Supply {
-    pub(crate) ahead: Ahead,
+pub(crate) struct TrackSupply {
+    pub(crate) progress: SendProgress,
     pub(crate) spare: Option<Box<Item>>,
 }
 
 /// What the samples are read from.
 #[derive(Drop)]
-pub(crate) struct Shelf<M> {
+pub(crate) struct SourceReader<M> {
     pub(crate) media: M,
     pub(crate) sources: Sources,
+}
+
+/// What a butler holds beside its ends.
+#[derive(Drop)]
+pub(crate) struct Holdings<M> {
+    pub(crate) reader: SourceReader<M>,
+    /// How many cycles were asked.
+    pub(crate) cycles: u32,
+    pub(crate) supplies: Vec<TrackSupply>,
+    /// Of each generation the greatest next block that was acknowledged.
+    pub(crate) nexts: Vec<u32>,
+    pub(crate) husk: Option<Box<Ack>>,
+    /// Whether the ring of acknowledgements has answered Closed.
+    pub(crate) ended: bool,
+    pub(crate) failed: bool,
 }

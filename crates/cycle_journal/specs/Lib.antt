@@ -1,3 +1,3 @@
 -- Entries as the definitions of the engine have them, and the numbers of statuses.
-pub mod Seen
+pub mod JournalView
 pub mod Status

@@ -10,6 +10,3 @@ pub use entry::{Entry, State};
 pub use journal::Journal;
 pub use note::{Note, Play, Take};
 pub use status::{InputRefusal, Status};
-
-#[cfg(test)]
-mod tests;

@@ -8,7 +8,8 @@ pub enum Play {
     Silent,
     /// A piece by this playlist edition.
     Heard(u32),
-    /// No piece was there, and the track was silent: so many of its items had been received.
+    /// An underrun: no piece was there, and the track was silent. So many of its items had been
+    /// received.
     Short(u64),
 }
 

@@ -5,7 +5,7 @@ use mathlib.Core.List.{IsPrefix}
 use Rattle.disk_ring.specs.Sender.{Sender, GoesOnIn}
 use Rattle.disk_ring.specs.Receiver.{Receiver, GoesOnOut, receiver_of}
 use Rattle.disk_ring.specs.Steps.{close_bit, SawTail}
-use Rattle.disk_ring.specs.declared.board.Known.{Known}
+use Rattle.disk_ring.specs.declared.ring_table.Known.{Known}
 use Rattle.atomic_table.specs.declared.shared.Seat.{Seat}
 use Rattle.atomic_table.specs.Table.{step}
 use mathlib.Core.Option.{none}

@@ -2,7 +2,7 @@
 use Rattle.std.proofs.Common.{◌≡◌, ◌≢◌, ℕ, ◌/◌, ◌%◌, [], ◌∷◌, length, sym, ap, ◌∙◌}
 use mathlib.Core.Option.{none}
 use Rattle.atomic_table.specs.Table.{Me, step}
-use Rattle.disk_ring.specs.declared.board.Known.{Known}
+use Rattle.disk_ring.specs.declared.ring_table.Known.{Known}
 use Rattle.disk_ring.specs.Steps.{NoRoom, SawHead, SawTail}
 
 module _ {S T : Type 0} (value : S → T) (room_of : T → ℕ) where

@@ -6,7 +6,7 @@ use lib.ListN.{get_elem?, length-map}
 use base.Growing.{prefix_refl}
 use Rattle.atomic_table.specs.Table.{State, Splits, Joins, opening}
 use Rattle.atomic_table.proofs.Lists.{at_set, at_snoc}
-use Rattle.disk_ring.specs.declared.board.Known.{Known}
+use Rattle.disk_ring.specs.declared.ring_table.Known.{Known}
 use Rattle.disk_ring.specs.Rule.{Flow, Fits, Ruled, Law, opening_view}
 use Rattle.disk_ring.specs.Steps.{note, hears, hears_list}
 use Rattle.disk_ring.proofs.Beginnings.{last_at, item_there}

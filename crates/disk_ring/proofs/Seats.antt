@@ -5,7 +5,7 @@ use mathlib.Core.Option.{some}
 use lib.ListN.{get_elem?}
 use base.Growing.{prefix_refl, prefix_trans}
 use Rattle.atomic_table.proofs.Lists.{at_set}
-use Rattle.disk_ring.specs.declared.board.Known.{Known}
+use Rattle.disk_ring.specs.declared.ring_table.Known.{Known}
 use Rattle.disk_ring.specs.Rule.{Flow, Fits, Produces, Consumes}
 
 module _ {T : Type 0} where

@@ -9,7 +9,7 @@ use base.Growing.{prefix_refl, prefix_trans}
 use Rattle.std.proofs.lemmas.List.{nil_from_length}
 use Rattle.atomic_table.specs.Table.{State, Me, step, keeps, takes, gives, Allows}
 use Rattle.atomic_table.proofs.Lists.{set_here, set_else, at_last, at_longer}
-use Rattle.disk_ring.specs.declared.board.Known.{Known}
+use Rattle.disk_ring.specs.declared.ring_table.Known.{Known}
 use Rattle.disk_ring.specs.Rule.{Flow, Ruled, Law, bit}
 use Rattle.disk_ring.specs.Steps.{NoRoom, SawHead, Sent, Shut, RecalledIn}
 use Rattle.disk_ring.proofs.Seats.{Moves, seated, still_takes, still_told}

@@ -7,7 +7,7 @@ use native.Mathlib.Decide.{dec_le}
 use lib.Seq.{set-get_or}
 use Rattle.atomic_table.specs.Table.{State, Me, Act, Valid, stepped, carried_after}
 use Rattle.atomic_table.proofs.Lists.{one_turn}
-use Rattle.disk_ring.specs.declared.board.Known.{Known}
+use Rattle.disk_ring.specs.declared.ring_table.Known.{Known}
 use Rattle.disk_ring.specs.Rule.{Fits, Ruled, Law}
 use Rattle.disk_ring.proofs.Seats.{seated, still}
 

@@ -9,7 +9,7 @@ use lib.ListN.{get_elem?}
 use base.Growing.{prefix_refl}
 use Rattle.atomic_table.specs.Table.{State, Me, step, keeps, takes, gives, Allows}
 use Rattle.atomic_table.proofs.Lists.{set_here, set_else}
-use Rattle.disk_ring.specs.declared.board.Known.{Known}
+use Rattle.disk_ring.specs.declared.ring_table.Known.{Known}
 use Rattle.disk_ring.specs.Rule.{Flow, Ruled, Law, bit}
 use Rattle.disk_ring.specs.Steps.{close_bit, SawTail, Received, RecalledOut}
 use Rattle.disk_ring.proofs.Beginnings.{begins_length, whole, shorter, next_at}

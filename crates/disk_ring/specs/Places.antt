@@ -2,7 +2,7 @@
 use Rattle.std.specs.Prelude.{◌≡◌, ℕ, ◌%◌, ◌^◌, ◌<◌, ◌≤◌, true, false, [], length}
 use Rattle.atomic_table.specs.Seated.{TableId}
 use Rattle.atomic_table.specs.declared.shared.Seat.{Seat}
-use Rattle.disk_ring.specs.declared.board.Known.{Known}
+use Rattle.disk_ring.specs.declared.ring_table.Known.{Known}
 use Rattle.disk_ring.specs.Rule.{opening_view}
 
 module _ {S T : Type 0} where

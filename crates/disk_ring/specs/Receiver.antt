@@ -3,7 +3,7 @@ use Rattle.std.specs.Prelude.{◌≡◌, ℕ, ◌^◌, ◌<◌, ◌≤◌, Bool,
 use mathlib.Core.List.{IsPrefix}
 use Rattle.atomic_table.specs.Seated.{TableId}
 use Rattle.atomic_table.specs.declared.shared.Seat.{Seat}
-use Rattle.disk_ring.specs.declared.board.Known.{Known}
+use Rattle.disk_ring.specs.declared.ring_table.Known.{Known}
 
 -- the end that takes
 pub record Receiver (T : Type 0) : Type 0 where

@@ -3,10 +3,10 @@ ghost use Rattle.std.specs.Prelude.{◌≡◌, ℕ, ◌<◌, [], true, false, le
 ghost use Rattle.disk_ring.specs.Rings.{IsNewRing, AllOfRoom};
 ghost use Rattle.disk_ring.specs.Places.{IsFirst};
 
-use crate::board::{Board, Place};
 use crate::plays::Part;
 use crate::ring_in::RingIn;
 use crate::ring_out::RingOut;
+use crate::ring_table::{Place, RingTable};
 use crate::roomy::Roomy;
 use atomic_table::Table;
 use ses_io::NoMemory;
@@ -14,11 +14,11 @@ use std::alloc::Global;
 use std::sync::Arc;
 
 // The table of a new ring, and its first seat.
-fn new_board<T: Roomy + Drop>(
+fn new_ring_table<T: Roomy + Drop>(
     alloc: Global,
     husks: Vec<Box<T>>,
     room: u64,
-) -> Result<(Board<T>, Place<T>), NoMemory>
+) -> Result<(RingTable<T>, Place<T>), NoMemory>
     requires some { 0 < length husks.items }
     requires room { AllOfRoom T.room_of room husks.items }
     ensures { IfOk result (λ r.
@@ -31,16 +31,16 @@ fn new_board<T: Roomy + Drop>(
 }
 
 // The consumer's seat, cut off the first one, which is the producer's from then on.
-fn part<T: Roomy>(board: &Board<T>, first: &mut Place<T>) -> Place<T>
-    requires table { first.old.table_id ≡ board.now.shared.table_id }
-    requires words { board.now.shared.table_id.words ≡ 2 }
+fn part<T: Roomy>(ring_table: &RingTable<T>, first: &mut Place<T>) -> Place<T>
+    requires table { first.old.table_id ≡ ring_table.now.shared.table_id }
+    requires words { ring_table.now.shared.table_id.words ≡ 2 }
     requires both { (first.old.me.0.sends ≡ true) × (first.old.me.0.takes ≡ true) }
     ensures same { first.new.table_id ≡ first.old.table_id }
     ensures other { result.table_id ≡ first.old.table_id }
     ensures producer { first.new.me ≡ (record first.old.me.0 { takes = false }, first.old.me.1) }
     ensures consumer { result.me ≡ (record first.old.me.0 { sends = false }, []) }
 {
-    board.shared.split_seat::<Part>(first)
+    ring_table.shared.split_seat::<Part>(first)
 }
 
 /// The two ends of a new ring of `depth` boxes, which begins with these husks, all of one room.
@@ -57,18 +57,18 @@ pub fn ring<T: Roomy + Drop>(
         (λ r. (room : ℕ) → AllOfRoom T.room_of room husks.items → r.0.room ≡ room) }
 {
     let room = u64::from(husks[0].room());
-    let (board, mut first) = new_board(alloc, husks, room)?;
-    let second = part(&board, &mut first);
-    let ours = Arc::new(alloc, board)?;
+    let (ring_table, mut first) = new_ring_table(alloc, husks, room)?;
+    let second = part(&ring_table, &mut first);
+    let ours = Arc::new(alloc, ring_table)?;
     let theirs = Arc::try_clone(&ours)?;
     let sender = RingIn {
-        board: ours,
+        ring_table: ours,
         seat: first,
         count: 0,
         depth: u64::from(depth),
     };
     let receiver = RingOut {
-        board: theirs,
+        ring_table: theirs,
         seat: second,
         count: 0,
         depth: u64::from(depth),

@@ -36,9 +36,9 @@ pub fn meet<T: Roomy>(a: &mut RingIn<T>, b: &mut RingOut<T>)
     ensures sender_goes_on { GoesOnIn a.old a.new }
     ensures receiver_goes_on { GoesOnOut b.old b.new }
 {
-    tell_heard(&a.board, &mut a.seat, &mut b.seat);
-    tell_consumer(&a.board, &mut b.seat, &mut a.seat);
-    tell_producer(&a.board, &mut a.seat, &mut b.seat);
+    tell_heard(&a.ring_table, &mut a.seat, &mut b.seat);
+    tell_consumer(&a.ring_table, &mut b.seat, &mut a.seat);
+    tell_producer(&a.ring_table, &mut a.seat, &mut b.seat);
 }
 
 /// The ring of two ends, which nothing changes any more.

@@ -3,7 +3,7 @@ ghost use Rattle.std.specs.Prelude.{[], false, length};
 ghost use Rattle.disk_ring.specs.Steps.{SawHead, Sent, Shut, SawTail, Received};
 ghost use Rattle.disk_ring.specs.Steps.{RecalledIn, RecalledOut, note, hears, hears_list};
 
-use crate::board::Known;
+use crate::ring_table::Known;
 use crate::roomy::Roomy;
 use atomic_table::{Join, Play, Split};
 

@@ -2,7 +2,7 @@
 ghost use Rattle.std.specs.Prelude.{◌≡◌, ◌⊎◌, ◌+◌, ◌^◌, ◌≤◌, ◌↔◌, IsTrue, true, false, MatchResult};
 ghost use Rattle.disk_ring.specs.Sender.{GoesOnIn, Puts, Refuses};
 
-use crate::board::{Board, Place};
+use crate::ring_table::{Place, RingTable};
 use crate::roomy::Roomy;
 use crate::steps::{look_at_head, send, shut_off};
 use std::marker::Model;
@@ -14,7 +14,7 @@ const MOST: u64 = 1 << 62;
 /// The end that puts, for one thread at a time.
 #[derive(Drop)]
 pub struct RingIn<T: Roomy> {
-    pub(crate) board: Arc<Board<T>>,
+    pub(crate) ring_table: Arc<RingTable<T>>,
     pub(crate) seat: Place<T>,
     pub(crate) count: u64,
     pub(crate) depth: u64,
@@ -29,7 +29,7 @@ impl<T: Roomy> Model for RingIn<T> {
 
     ghost view = { λ r. sender_of r.seat r.depth };
 
-    ghost invariant = { λ r. SenderOk (arc_value r.board).shared.table_id r.seat r.count r.depth };
+    ghost invariant = { λ r. SenderOk (arc_value r.ring_table).shared.table_id r.seat r.count r.depth };
 }
 
 /// The item wasn't put, and comes back, with the head that was loaded: the number received by then.
@@ -58,13 +58,13 @@ impl<T: Roomy> RingIn<T> {
             (λ husk. Puts T.room_of self.old full.value husk.value self.new)
             (λ e. (e.item ≡ full) × Refuses self.old e.head self.new) }
     {
-        let board: &Board<T> = &self.board;
-        let head = look_at_head(board, &mut self.seat);
+        let ring_table: &RingTable<T> = &self.ring_table;
+        let head = look_at_head(ring_table, &mut self.seat);
         if is_full(self.count, head, self.depth) {
             return Err(Full { item: full, head });
         }
         let slot = (self.count % self.depth) as usize;
-        let husk = send(board, &mut self.seat, slot, self.count, full);
+        let husk = send(ring_table, &mut self.seat, slot, self.count, full);
         self.count += 1;
         Ok(husk)
     }
@@ -73,6 +73,6 @@ impl<T: Roomy> RingIn<T> {
     pub fn close(&mut self)
         ensures { self.new ≡ record self.old { closed = true } }
     {
-        shut_off(&self.board, &mut self.seat, self.count);
+        shut_off(&self.ring_table, &mut self.seat, self.count);
     }
 }

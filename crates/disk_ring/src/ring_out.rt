@@ -4,8 +4,8 @@ ghost use Rattle.disk_ring.specs.Receiver.{GoesOnOut, Takes};
 ghost use Rattle.disk_ring.specs.Answers.{FoundNothing};
 ghost use Rattle.disk_ring.specs.Steps.{close_bit};
 
-use crate::board::{Board, Place};
 use crate::nothing::Nothing;
+use crate::ring_table::{Place, RingTable};
 use crate::roomy::Roomy;
 use crate::steps::{look_at_tail, receive};
 use std::marker::Model;
@@ -14,7 +14,7 @@ use std::sync::Arc;
 /// The end that takes, for one thread at a time.
 #[derive(Drop)]
 pub struct RingOut<T: Roomy> {
-    pub(crate) board: Arc<Board<T>>,
+    pub(crate) ring_table: Arc<RingTable<T>>,
     pub(crate) seat: Place<T>,
     pub(crate) count: u64,
     pub(crate) depth: u64,
@@ -30,7 +30,7 @@ impl<T: Roomy> Model for RingOut<T> {
     ghost view = { λ r. receiver_of r.seat r.depth };
 
     ghost invariant = { λ r.
-        ReceiverOk (arc_value r.board).shared.table_id r.seat r.count r.depth };
+        ReceiverOk (arc_value r.ring_table).shared.table_id r.seat r.count r.depth };
 }
 
 // The answer of an end that received all, by the close bit of the tail word.
@@ -64,14 +64,14 @@ impl<T: Roomy> RingOut<T> {
             (λ item. Takes T.room_of self.old item.value self.new)
             (λ e. FoundNothing self.old husk e self.new) }
     {
-        let board: &Board<T> = &self.board;
-        let word = look_at_tail(board, &mut self.seat);
+        let ring_table: &RingTable<T> = &self.ring_table;
+        let word = look_at_tail(ring_table, &mut self.seat);
         let tail = word / 2;
         if tail == self.count {
             return Err(nothing(word, husk));
         }
         let slot = (self.count % self.depth) as usize;
-        let item = receive(board, &mut self.seat, slot, self.count, husk);
+        let item = receive(ring_table, &mut self.seat, slot, self.count, husk);
         self.count += 1;
         Ok(item)
     }

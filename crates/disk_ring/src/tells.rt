@@ -3,18 +3,18 @@ ghost use Rattle.std.specs.Prelude.{◌≡◌, ◌+◌, ◌^◌, ◌≤◌, true
 ghost use mathlib.Core.List.{IsPrefix};
 ghost use Rattle.disk_ring.specs.Places.{IsSameSeat, IsProducer, IsConsumer};
 
-use crate::board::{Board, HEAD, Place, TAIL};
 use crate::plays::{Hear, HearList, NoteHeard, NoteIn, NoteOut, RecallIn, RecallOut};
+use crate::ring_table::{HEAD, Place, RingTable, TAIL};
 use crate::roomy::Roomy;
 
 /// The producer hears what the consumer had been told.
 pub(crate) fn tell_heard<T: Roomy>(
-    board: &Board<T>,
+    ring_table: &RingTable<T>,
     producer: &mut Place<T>,
     consumer: &mut Place<T>,
 )
-    requires producer { IsProducer board.now.shared.table_id producer.old }
-    requires consumer { IsConsumer board.now.shared.table_id consumer.old }
+    requires producer { IsProducer ring_table.now.shared.table_id producer.old }
+    requires consumer { IsConsumer ring_table.now.shared.table_id consumer.old }
     ensures same { IsSameSeat producer.old producer.new × IsSameSeat consumer.old consumer.new }
     ensures told { producer.new.me ≡ (
       record producer.old.me.0
@@ -26,19 +26,19 @@ pub(crate) fn tell_heard<T: Roomy>(
     ensures over { consumer.old.me.0.over ≡ true → (producer.old.me.0.closed ≡ true)
         × (consumer.old.me.0.heard ≡ producer.old.me.0.sent) }
 {
-    let note = board.shared.split_seat::<NoteHeard>(consumer);
-    board.shared.join_seat::<HearList>(producer, note);
-    board.shared.load::<RecallIn>(producer, HEAD);
+    let note = ring_table.shared.split_seat::<NoteHeard>(consumer);
+    ring_table.shared.join_seat::<HearList>(producer, note);
+    ring_table.shared.load::<RecallIn>(producer, HEAD);
 }
 
 /// The consumer hears what was sent.
 pub(crate) fn tell_consumer<T: Roomy>(
-    board: &Board<T>,
+    ring_table: &RingTable<T>,
     consumer: &mut Place<T>,
     producer: &mut Place<T>,
 )
-    requires producer { IsProducer board.now.shared.table_id producer.old }
-    requires consumer { IsConsumer board.now.shared.table_id consumer.old }
+    requires producer { IsProducer ring_table.now.shared.table_id producer.old }
+    requires consumer { IsConsumer ring_table.now.shared.table_id consumer.old }
     ensures same { IsSameSeat producer.old producer.new × IsSameSeat consumer.old consumer.new }
     ensures told { consumer.new.me ≡ (
       record consumer.old.me.0 {
@@ -50,22 +50,22 @@ pub(crate) fn tell_consumer<T: Roomy>(
     ) }
     ensures kept { producer.new.me ≡ producer.old.me }
     ensures within { length producer.old.me.0.sent
-        ≤ length consumer.old.me.0.received + board.now.shared.table_id.slots }
+        ≤ length consumer.old.me.0.received + ring_table.now.shared.table_id.slots }
     ensures got { producer.old.me.0.got ≤ length consumer.old.me.0.received }
 {
-    let note = board.shared.split_seat::<NoteIn>(producer);
-    board.shared.join_seat::<Hear>(consumer, note);
-    board.shared.load::<RecallOut>(consumer, TAIL);
+    let note = ring_table.shared.split_seat::<NoteIn>(producer);
+    ring_table.shared.join_seat::<Hear>(consumer, note);
+    ring_table.shared.load::<RecallOut>(consumer, TAIL);
 }
 
 /// The producer hears what was received.
 pub(crate) fn tell_producer<T: Roomy>(
-    board: &Board<T>,
+    ring_table: &RingTable<T>,
     producer: &mut Place<T>,
     consumer: &mut Place<T>,
 )
-    requires producer { IsProducer board.now.shared.table_id producer.old }
-    requires consumer { IsConsumer board.now.shared.table_id consumer.old }
+    requires producer { IsProducer ring_table.now.shared.table_id producer.old }
+    requires consumer { IsConsumer ring_table.now.shared.table_id consumer.old }
     ensures same { IsSameSeat producer.old producer.new × IsSameSeat consumer.old consumer.new }
     ensures told { producer.new.me ≡ (
       record producer.old.me.0 {
@@ -81,7 +81,7 @@ pub(crate) fn tell_producer<T: Roomy>(
         × (consumer.old.me.0.received ≡ producer.old.me.0.sent) }
     ensures small { length producer.old.me.0.sent ≤ 2 ^ 62 }
 {
-    let note = board.shared.split_seat::<NoteOut>(consumer);
-    board.shared.join_seat::<Hear>(producer, note);
-    board.shared.load::<RecallIn>(producer, HEAD);
+    let note = ring_table.shared.split_seat::<NoteOut>(consumer);
+    ring_table.shared.join_seat::<Hear>(producer, note);
+    ring_table.shared.load::<RecallIn>(producer, HEAD);
 }

@@ -10,11 +10,12 @@ use Rattle.engine_model.specs.Edits.{touches, last_where, playlist_edition}
 use Rattle.engine_model.specs.Transport as engine_transport
 use Rattle.engine_model.specs.Transport.{moved, at_rest}
 use Rattle.locate_loop.specs.Transport.{transport_of}
-use Rattle.engine_model.specs.Editions.{Edition, Refusal, refusal, unless_refused, changed, apply, taken_up, after_one, edition, IsAccepted}
+use Rattle.engine_model.specs.Editions.{Edition, Refusal, refusal, unless_refused, changed, apply, taken_up, after_one, edition, IsAccepted, session_after}
+use Rattle.engine_laws.proofs.PlayedLemmas.{session_keeps}
 use Rattle.engine_laws.proofs.EditionLemmas.{at_the_end, one_longer, accepted_more, edition_stays}
 use Rattle.engine_laws.proofs.NumberLemmas.{last_stays}
 use Rattle.engine_laws.proofs.PlainLemmas.{held_at_the_end}
-use Rattle.edition_log.specs.Seen.{Seen, IsOpen, IsEditionOf, state_of}
+use Rattle.edition_log.specs.EditionState.{EditionState, IsOpen, IsEditionOf, state_of}
 use Rattle.edition_log.specs.Steps.{is_built}
 
 abbrev state : Session → engine_transport.Transport → ℕ → Edition
@@ -28,7 +29,7 @@ all_zero [] t h = refl
 all_zero (x ∷ xs) zero h = eqb-true x 0 (and_parts (x == 0) (list_all (λ y. y == 0) xs) h).0
 all_zero (x ∷ xs) (suc t) h = all_zero xs t (and_parts (x == 0) (list_all (λ y. y == 0) xs) h).1
 
-pub is_first : (s : Session) (e : Seen) → e.session ≡ s → transport_of e.transport ≡ at_rest → e.edits ≡ [] → list_all (λ x. x == 0) e.touched ≡ true → IsEditionOf s e
+pub is_first : (s : Session) (e : EditionState) → e.session ≡ s → transport_of e.transport ≡ at_rest → e.edits ≡ [] → list_all (λ x. x == 0) e.touched ≡ true → IsEditionOf s e
 is_first s e same rests none zeros = record {
   state = same_edition e.session s (transport_of e.transport) at_rest (length e.edits) 0 same rests (ap (λ es. length es) none) ∙ sym (ap (λ es. edition s es (length es)) none);
   accepted = subst (IsAccepted s) (sym none) (record { each = λ k x here. absurd (grind (arith, here)); unended = λ k x here. absurd (grind (arith, here)) });
@@ -57,7 +58,7 @@ next_edition s edits edit next ok = ap (edition s (edits ++ edit ∷ [])) (one_l
 ok_is_ok : (r : Result Edition Refusal) (next : Edition) → r ≡ Ok next → IsOk r
 ok_is_ok r next e = subst IsOk (sym e) refl
 
-pub stays_with_edit : (s : Session) (old new : Seen) (edit : Edit) → is_built edit ≡ true → IsOpen old → apply (state_of old) edit ≡ Ok (state_of new) →
+pub stays_with_edit : (s : Session) (old new : EditionState) (edit : Edit) → is_built edit ≡ true → IsOpen old → apply (state_of old) edit ≡ Ok (state_of new) →
     new.edits ≡ old.edits ++ edit ∷ [] → new.touched ≡ old.touched → IsEditionOf s old → IsEditionOf s new
 stays_with_edit s old new edit built open_still ok more same is = let here = subst (λ e. apply e edit ≡ Ok (state_of new)) is.state ok in record {
   state = sym (next_edition s old.edits edit (state_of new) here) ∙ sym (ap (λ es. edition s es (length es)) more);
@@ -66,17 +67,17 @@ stays_with_edit s old new edit built open_still ok more same is = let here = sub
   touched = λ t lt. ap (λ ts. slice_index_or ts t 0) same ∙ is.touched t lt ∙ sym (same_playlist s t old.edits edit built) ∙ sym (ap (λ es. playlist_edition s es t (length es)) more);
 }
 
-pub stays_at_end : (s : Session) (old new : Seen) → state_of new ≡ state_of old → new.edits ≡ old.edits → new.touched ≡ old.touched → IsEditionOf s old → IsEditionOf s new
+pub stays_at_end : (s : Session) (old new : EditionState) → state_of new ≡ state_of old → new.edits ≡ old.edits → new.touched ≡ old.touched → IsEditionOf s old → IsEditionOf s new
 stays_at_end s old new state same touched is = record {
   state = state ∙ is.state ∙ sym (ap (λ es. edition s es (length es)) same);
   accepted = subst (IsAccepted s) (sym same) is.accepted;
   touched = λ t lt. ap (λ ts. slice_index_or ts t 0) touched ∙ is.touched t lt ∙ sym (ap (λ es. playlist_edition s es t (length es)) same);
 }
 
-pub stays_applied : (s : Session) (old new : Seen) (edit : Edit) → is_built edit ≡ true → IsOpen old → refusal (state_of old) edit ≡ None → new.session ≡ old.session →
+pub stays_applied : (s : Session) (old new : EditionState) (edit : Edit) → is_built edit ≡ true → IsOpen old → refusal (state_of old) edit ≡ None → new.session ≡ old.session →
     transport_of new.transport ≡ moved (transport_of old.transport) edit → new.edits ≡ old.edits ++ edit ∷ [] → new.touched ≡ old.touched → IsEditionOf s old → IsEditionOf s new
 stays_applied s old new edit built open_still none same goes more kept is = stays_with_edit s old new edit built open_still
     (ap (λ why. unless_refused why (changed (state_of old) edit)) none ∙ ap (λ e. Ok e) (sym
-    (same_edition new.session old.session (transport_of new.transport) (moved (transport_of old.transport) edit) (length new.edits) (suc (length old.edits)) same goes
+    (same_edition new.session (session_after old.session edit) (transport_of new.transport) (moved (transport_of old.transport) edit) (length new.edits) (suc (length old.edits)) (same ∙ sym (session_keeps old.session edit)) goes
     (ap (λ es. length es) more ∙ one_longer old.edits edit))))
     more kept is

@@ -4,12 +4,12 @@ use Rattle.session_model.specs.declared.session.Session.{Session}
 use Rattle.engine_model.specs.Edits.{generation, has_quit}
 use Rattle.engine_model.specs.Transport.{place_of, place}
 use Rattle.locate_loop.specs.Transport.{transport_of}
-use Rattle.edition_log.specs.Seen.{Seen, IsEditionOf}
+use Rattle.edition_log.specs.EditionState.{EditionState, IsEditionOf}
 
-pub record PlaysItsPlaces (e : Seen) : Type 0 where
+pub record PlaysItsPlaces (e : EditionState) : Type 0 where
   pub counted : e.transport.generation ≡ generation e.edits (length e.edits)
   pub places : (n : ℕ) → place_of (transport_of e.transport) n ≡ place e.edits (generation e.edits (length e.edits)) n
   pub quit : e.transport.quit ≡ has_quit e.edits (length e.edits)
 
 abbrev pub EditionsPlayTheirPlaces : Type 0
-EditionsPlayTheirPlaces = (s : Session) (e : Seen) → IsEditionOf s e → PlaysItsPlaces e
+EditionsPlayTheirPlaces = (s : Session) (e : EditionState) → IsEditionOf s e → PlaysItsPlaces e

@@ -1,30 +1,77 @@
 -- What an edit does to an edition.
 use Rattle.std.specs.Prelude.{◌≡◌, ◌<◌, ◌^◌, ℕ, Bool, true, false, [], ◌∷◌, ◌++◌, Some, None, Result, Ok, Err}
 use Rattle.session_model.specs.declared.edit.Edit.{Edit}
-use Rattle.session_model.specs.declared.edit.Edit.TheVariants.{Roll, Locate}
+use Rattle.session_model.specs.declared.edit.Edit.TheVariants.{Roll, Stop, Quit, Recording, Locate, Loop, LoopOff, Arm, Solo, Mute, Gain, Pan, Mode, Point, Unpoint, Connect, Send, Unsend, Add, Remove, Move, Trim, Layer, Opaque, RegionGain, Fade}
 use Rattle.engine_model.specs.Editions.{apply, refusal}
 use Rattle.edition_log.specs.declared.reason.Refusal.{Refusal}
 use Rattle.edition_log.specs.Reason.{refusal_of}
-use Rattle.edition_log.specs.Seen.{Seen, state_of}
+use Rattle.edition_log.specs.EditionState.{EditionState, state_of}
 
 -- the edits that are carried out so far; each that joins drops its case
 abbrev pub is_built : Edit → Bool
 is_built Roll = true
+is_built Stop = false
+is_built Quit = false
+is_built (Recording on) = false
 is_built (Locate to) = true
-is_built _ = false
+is_built (Loop from to) = false
+is_built LoopOff = false
+is_built (Arm track on) = false
+is_built (Solo track on) = false
+is_built (Mute route on) = false
+is_built (Gain route gain) = false
+is_built (Pan route left right) = false
+is_built (Mode route mode) = false
+is_built (Point route at gain) = false
+is_built (Unpoint route at) = false
+is_built (Connect route target) = false
+is_built (Send route target pre gain) = false
+is_built (Unsend route target) = false
+is_built (Add track id source start long at layer) = false
+is_built (Remove track id) = false
+is_built (Move track id at) = false
+is_built (Trim track id start long) = false
+is_built (Layer track id layer) = false
+is_built (Opaque track id on) = false
+is_built (RegionGain track id gain) = false
+is_built (Fade track id fade_in fade_out) = false
 
 -- What `apply` leaves: the next state with the edit at the list's end, or the first refusal and nothing changed.
-abbrev pub Applies : Seen → Edit → Result ℕ Refusal → Seen → Type 0
+abbrev pub Applies : EditionState → Edit → Result ℕ Refusal → EditionState → Type 0
 Applies old edit (Ok number) new = (apply (state_of old) edit ≡ Ok (state_of new)) × (number ≡ (state_of new).number)
     × (new.edits ≡ old.edits ++ edit ∷ []) × (new.ended ≡ old.ended)
 Applies old edit (Err why) new = (refusal (state_of old) edit ≡ Some (refusal_of why)) × (new ≡ old)
 
 -- What `admits` answers: the refusal that `apply` would give.
-abbrev pub Admits : Seen → Edit → Result (Unit {0}) Refusal → Type 0
+abbrev pub Admits : EditionState → Edit → Result (Unit {0}) Refusal → Type 0
 Admits e edit (Ok _) = refusal (state_of e) edit ≡ None
 Admits e edit (Err why) = refusal (state_of e) edit ≡ Some (refusal_of why)
 
 -- the places of an edit that is accepted lie before 2^40
-abbrev pub IsNear : Edit → Type 0
-IsNear (Locate to) = to < 2 ^ 40
-IsNear _ = Unit {0}
+abbrev pub HasNearPlace : Edit → Type 0
+HasNearPlace Roll = Unit {0}
+HasNearPlace Stop = Unit {0}
+HasNearPlace Quit = Unit {0}
+HasNearPlace (Recording on) = Unit {0}
+HasNearPlace (Locate to) = to < 2 ^ 40
+HasNearPlace (Loop from to) = Unit {0}
+HasNearPlace LoopOff = Unit {0}
+HasNearPlace (Arm track on) = Unit {0}
+HasNearPlace (Solo track on) = Unit {0}
+HasNearPlace (Mute route on) = Unit {0}
+HasNearPlace (Gain route gain) = Unit {0}
+HasNearPlace (Pan route left right) = Unit {0}
+HasNearPlace (Mode route mode) = Unit {0}
+HasNearPlace (Point route at gain) = Unit {0}
+HasNearPlace (Unpoint route at) = Unit {0}
+HasNearPlace (Connect route target) = Unit {0}
+HasNearPlace (Send route target pre gain) = Unit {0}
+HasNearPlace (Unsend route target) = Unit {0}
+HasNearPlace (Add track id source start long at layer) = Unit {0}
+HasNearPlace (Remove track id) = Unit {0}
+HasNearPlace (Move track id at) = Unit {0}
+HasNearPlace (Trim track id start long) = Unit {0}
+HasNearPlace (Layer track id layer) = Unit {0}
+HasNearPlace (Opaque track id on) = Unit {0}
+HasNearPlace (RegionGain track id gain) = Unit {0}
+HasNearPlace (Fade track id fade_in fade_out) = Unit {0}

@@ -3,26 +3,21 @@ ghost use Rattle.std.specs.Prelude.{◌≡◌, ◌+◌, ◌<◌, ◌≤◌, [], 
 ghost use Rattle.session_model.specs.declared.session.Session.{Session as Opening};
 ghost use Rattle.session_model.specs.Valid.{IsValid};
 ghost use Rattle.locate_loop.specs.Transport.{IsTransport};
-ghost use Rattle.edition_log.specs.Seen.{Seen, IsSeen, IsOpen, IsEditionOf};
+ghost use Rattle.edition_log.specs.EditionState.{EditionState, IsEditionState, IsOpen, IsEditionOf};
 ghost use Rattle.edition_log.specs.Steps.{is_built, Applies, Admits};
 
 use crate::moving::moved;
 use crate::reason::{Bound, Refusal};
 use locate_loop::Transport;
 use route_graph::{Order, order};
-use ses_io::{NoMemory, Twin};
+use ses_io::{NoMemory, TryClone};
+use ses_units::limits::{EDITS, END};
 use session_model::{Edit, EditList, Session};
 use std::alloc::Global;
 use std::marker::Model;
 
-/// How many edits a run accepts.
-const MOST: u32 = 10_000;
-
-/// Places lie before this one, in frames.
-const END: u64 = 1 << 40;
-
 /// The state of a session after the accepted edits, the list of them, and whether it ended. Contracts see it as a record
-/// of `specs/Seen.antt`; `IsEditionOf` says that it is the state after just these edits.
+/// of `specs/EditionState.antt`; `IsEditionOf` says that it is the state after just these edits.
 #[derive(Drop)]
 pub struct Edition {
     session: Session,
@@ -35,13 +30,13 @@ pub struct Edition {
 
 impl Model for Edition {
     ghost use Rattle.std.specs.Prelude.{◌≤◌, length};
-    ghost use Rattle.edition_log.specs.Seen.{Seen, IsSeen};
+    ghost use Rattle.edition_log.specs.EditionState.{EditionState, IsEditionState};
 
-    ghost Value = { Seen };
+    ghost Value = { EditionState };
 
     ghost view = { λ e. record { session = e.session; transport = e.transport; order = e.order; touched = e.touched; edits = e.edits.items; ended = e.ended } };
 
-    ghost invariant = { λ e. IsSeen record { session = e.session; transport = e.transport; order = e.order; touched = e.touched; edits = e.edits.items; ended = e.ended } × (10000 ≤ e.edits.room) };
+    ghost invariant = { λ e. IsEditionState record { session = e.session; transport = e.transport; order = e.order; touched = e.touched; edits = e.edits.items; ended = e.ended } × (10000 ≤ e.edits.room) };
 }
 
 impl Edition {
@@ -59,7 +54,7 @@ impl Edition {
             transport: Transport::at_rest(),
             order,
             touched: [0; 32],
-            edits: EditList::new(alloc, MOST)?,
+            edits: EditList::new(alloc, EDITS)?,
             ended: false,
         })
     }
@@ -83,12 +78,37 @@ impl Edition {
         requires open { IsOpen self.now }
         ensures { Admits self.now edit.now result }
     {
-        if self.edits.len() >= MOST as usize {
+        if self.edits.len() >= EDITS as usize {
             return Err(Refusal::Limit(Bound::Edits));
         }
         match *edit {
             Edit::Locate { to } if to >= END => Err(Refusal::Far(to)),
-            _ => Ok(()),
+            Edit::Roll
+            | Edit::Stop
+            | Edit::Quit
+            | Edit::Recording { .. }
+            | Edit::Locate { .. }
+            | Edit::Loop { .. }
+            | Edit::LoopOff
+            | Edit::Arm { .. }
+            | Edit::Solo { .. }
+            | Edit::Mute { .. }
+            | Edit::Gain { .. }
+            | Edit::Pan { .. }
+            | Edit::Mode { .. }
+            | Edit::Point { .. }
+            | Edit::Unpoint { .. }
+            | Edit::Connect { .. }
+            | Edit::Send { .. }
+            | Edit::Unsend { .. }
+            | Edit::Add { .. }
+            | Edit::Remove { .. }
+            | Edit::Move { .. }
+            | Edit::Trim { .. }
+            | Edit::Layer { .. }
+            | Edit::Opaque { .. }
+            | Edit::RegionGain { .. }
+            | Edit::Fade { .. } => Ok(()),
         }
     }
 
@@ -111,7 +131,7 @@ impl Edition {
     /// The session as the edits have made it.
     pub fn session(&self) -> &Session
         ensures session { result.now ≡ self.now.session }
-        ensures seen { IsSeen self.now }
+        ensures seen { IsEditionState self.now }
     {
         &self.session
     }
@@ -154,14 +174,14 @@ impl Edition {
     }
 }
 
-impl Twin for Edition {
-    fn twin(&self, alloc: Global) -> Result<Self, NoMemory> {
+impl TryClone for Edition {
+    fn try_clone(&self, alloc: Global) -> Result<Self, NoMemory> {
         Ok(Edition {
-            session: self.session.twin(alloc)?,
+            session: self.session.try_clone(alloc)?,
             transport: self.transport,
-            order: self.order.twin(alloc)?,
+            order: self.order.try_clone(alloc)?,
             touched: self.touched,
-            edits: self.edits.twin(alloc)?,
+            edits: self.edits.try_clone(alloc)?,
             ended: self.ended,
         })
     }

@@ -9,6 +9,3 @@ mod reason;
 pub use edition::Edition;
 pub use laws::editions_play_their_places;
 pub use reason::{Bound, Refusal};
-
-#[cfg(test)]
-mod tests;

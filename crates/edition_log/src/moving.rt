@@ -3,7 +3,7 @@ ghost use Rattle.std.specs.Prelude.{◌≡◌, ◌+◌, ◌<◌, ◌≤◌, ◌^
 ghost use Rattle.engine_model.specs.Editions.{why_not};
 ghost use Rattle.engine_model.specs.Transport.{moved};
 ghost use Rattle.locate_loop.specs.Transport.{transport_of, IsTransport};
-ghost use Rattle.edition_log.specs.Steps.{is_built, IsNear};
+ghost use Rattle.edition_log.specs.Steps.{is_built, HasNearPlace};
 
 use locate_loop::Transport;
 use session_model::Edit;
@@ -12,7 +12,7 @@ use session_model::Edit;
 pub(crate) fn moved(t: &Transport, edit: &Edit) -> Transport
     requires built { IsTrue (is_built edit.now) }
     requires bounds { IsTransport t.now }
-    requires near { IsNear edit.now }
+    requires near { HasNearPlace edit.now }
     requires few { t.now.generation < 10000 }
     ensures moved { transport_of result ≡ moved (transport_of t.now) edit.now }
     ensures bounds { IsTransport result }
@@ -28,6 +28,29 @@ pub(crate) fn moved(t: &Transport, edit: &Edit) -> Transport
             target: to,
             ..*t
         },
-        _ => *t,
+        Edit::Stop
+        | Edit::Quit
+        | Edit::Recording { .. }
+        | Edit::Loop { .. }
+        | Edit::LoopOff
+        | Edit::Arm { .. }
+        | Edit::Solo { .. }
+        | Edit::Mute { .. }
+        | Edit::Gain { .. }
+        | Edit::Pan { .. }
+        | Edit::Mode { .. }
+        | Edit::Point { .. }
+        | Edit::Unpoint { .. }
+        | Edit::Connect { .. }
+        | Edit::Send { .. }
+        | Edit::Unsend { .. }
+        | Edit::Add { .. }
+        | Edit::Remove { .. }
+        | Edit::Move { .. }
+        | Edit::Trim { .. }
+        | Edit::Layer { .. }
+        | Edit::Opaque { .. }
+        | Edit::RegionGain { .. }
+        | Edit::Fade { .. } => *t,
     }
 }

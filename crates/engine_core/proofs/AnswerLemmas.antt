@@ -1,8 +1,8 @@
--- What the answers of several turns say together, and how much is left to do.
-use Rattle.std.proofs.Common.{◌≡◌, ℕ, ◌+◌, ◌-◌, ◌*◌, ◌<◌, ◌≤◌, List, length, refl, sym, ap, subst, ◌∙◌, arith}
-use Rattle.std.specs.Prelude.{Bool, true, false, if◌then◌else◌, is_err, Result, Ok, Err, IfOk, OnOk}
+-- What the answers of several turns say together, how much is left to do, and what has failed by an answer.
+use Rattle.std.proofs.Common.{◌≡◌, ℕ, ◌+◌, ◌-◌, ◌*◌, ◌<◌, ◌≤◌, List, length, refl, sym, subst, arith, ◌∙◌}
+use Rattle.std.specs.Prelude.{Bool, true, false, if◌then◌else◌, is_err, Result, Ok, Err, IfOk, OnOk, OnErr}
 use Rattle.std.proofs.lemmas.Bool.{true≢false}
-use Rattle.ses_io.specs.Faults.{HasCause}
+use Rattle.ses_io.specs.Faults.{HasCause, risen}
 use Rattle.disk_ring.specs.Sender.{Sender}
 use Rattle.piece_item.specs.declared.item.Item.{Item}
 use Rattle.butler.specs.declared.turning.Turn.{Turn}
@@ -10,6 +10,7 @@ use Rattle.butler.specs.declared.turning.Turn.TheVariants.{Moved, Idle}
 use Rattle.butler.specs.declared.faults.ButlerFault.{ButlerFault}
 use Rattle.butler.specs.Turns.{total_sent}
 use Rattle.engine_core.specs.Answers.{is_idle, with_fault}
+use Rattle.engine_core.specs.Serial.{IsCounted}
 use Rattle.engine_core.proofs.SendsLemmas.{most}
 
 -- what holds where no turn has failed
@@ -67,3 +68,40 @@ falls (Ok (Moved n)) old new f g busy many small grows more failed quiet = subst
 falls (Ok Idle) old new f g busy many small grows more failed quiet = absurd (true≢false busy)
 falls (Err fault) old new f g busy many small grows more failed quiet = subst (λ l. (l * most + 1 - total_sent new) * 2 + (if g then 0 else 1) < left_to_do old f) (sym many)
     (falls_failed (length old * most + 1) (total_sent old) (total_sent new) f g (omega (arith, small)) grows (not_failed f fault quiet) failed)
+
+-- ---- what failed
+
+module _ {T E : Type 0} (answer : Result T E) (was now : Bool) (is : now ≡ (if is_err answer then true else was)) where
+  -- where nothing has failed now, nothing had, and this didn't
+  pub had_not : now ≡ false → was ≡ false
+  had_not not = by answer is where
+    by : (a : Result T E) → now ≡ (if is_err a then true else was) → was ≡ false
+    by (Ok u) is = sym is ∙ not
+    by (Err e) is = absurd (true≢false (sym is ∙ not))
+
+  pub did_not : now ≡ false → (A : Type 0) → OnOk answer A → A
+  did_not not A = by answer is where
+    by : (a : Result T E) → now ≡ (if is_err a then true else was) → OnOk a A → A
+    by (Ok u) is held = held
+    by (Err e) is held = absurd (true≢false (sym is ∙ not))
+
+  -- where something has failed now and nothing had, this did
+  pub did : now ≡ true → was ≡ false → (A : Type 0) → OnErr answer A → A
+  did has had A = by answer is where
+    by : (a : Result T E) → now ≡ (if is_err a then true else was) → OnErr a A → A
+    by (Ok u) is held = absurd (true≢false (sym has ∙ is ∙ had))
+    by (Err e) is held = held
+
+  pub counted_on : (before mid after : ℕ) → IsCounted before mid was → HasCause mid after answer → IsCounted before after now
+  counted_on before mid after counted cause = by answer is cause.later cause.kept cause.rose where
+    by : (a : Result T E) → now ≡ (if is_err a then true else was) → mid ≤ after → OnOk a (after ≡ mid) → OnErr a (risen mid ≤ after) → IsCounted before after now
+    by (Ok u) is later kept rose = record {
+      later = omega (arith, counted.later, later);
+      kept = λ not. kept ∙ counted.kept (sym is ∙ not);
+      raised = λ yes. omega (arith, later, counted.raised (sym is ∙ yes));
+    }
+    by (Err e) is later kept rose = record {
+      later = omega (arith, counted.later, later);
+      kept = λ not. absurd (true≢false (sym is ∙ not));
+      raised = λ yes. omega (arith, rose, counted.later);
+    }

@@ -1,62 +1,55 @@
 -- The last turns of the butler, once the process has ended.
-use Rattle.std.proofs.Common.{◌≡◌, ℕ, List, [], length, refl, sym, ap, subst, ◌∙◌, arith}
-use Rattle.std.specs.Prelude.{true, if◌then◌else◌, is_err, slice_get, Some, Result, Ok, OnOk}
-use Rattle.std.proofs.lemmas.List.{append-nil}
+use Rattle.std.proofs.Common.{◌≡◌, List, length, refl, sym, ap, subst, ◌∙◌, arith}
+use Rattle.std.specs.Prelude.{Result, OnOk}
 use Rattle.sound_model.specs.Regions.{Sounds}
 use Rattle.session_model.specs.declared.session.Session.{Session}
-use Rattle.session_model.specs.declared.edit.Edit.{Edit}
-use Rattle.ses_io.specs.Files.{Files}
-use Rattle.disk_ring.specs.Sender.{Sender}
+use Rattle.ses_io.specs.Outside.{MediaOutside}
 use Rattle.disk_ring.specs.Receiver.{Receiver}
 use Rattle.piece_item.specs.declared.item.Item.{Item}
 use Rattle.piece_item.specs.declared.butler_ends.ButlerEnds.{ButlerEnds}
 use Rattle.process_cycle.specs.declared.ends.ProcessEnds.{ProcessEnds}
 use Rattle.process_cycle.specs.Ends.{EndsMeet}
 use Rattle.butler.specs.declared.turning.Turn.{Turn}
-use Rattle.butler.specs.declared.turning.Turn.TheVariants.{Idle}
 use Rattle.butler.specs.declared.faults.ButlerFault.{ButlerFault}
-use Rattle.butler.specs.Seen.{Seen as Butler, rested}
-use Rattle.butler.specs.Sends.{acks_of, SendsOf}
+use Rattle.butler.specs.ButlerState.{ButlerState as Butler, rested}
+use Rattle.butler.specs.Sends.{acks_of}
 use Rattle.butler.specs.Serving.{IsServing, AreGenuine, AreStocked}
 use Rattle.butler.specs.Table.{TakesAll}
-use Rattle.butler.specs.Turns.{Answers, Enters, KeepsRest}
+use Rattle.butler.specs.Turns.{TurnAnswers, AllSend, Answers, Fails, KeepsRest}
+use Rattle.edition_log.specs.EditionState.{EditionState as Edition}
 use Rattle.butler.proofs.MeetingLemmas.{meeting_keeps}
 use Rattle.engine_core.specs.declared.closing.Closing.{Closing}
-use Rattle.engine_core.specs.Ending.{Closes, HearsMore, Mounts, Winds}
+use Rattle.engine_core.specs.Ending.{ClosesARun, HearsMore, SendsMore, LastTurnsKeep}
 use Rattle.engine_core.specs.Serial.{AreOpen}
 use Rattle.engine_core.proofs.MeetLemmas.{heard_at, others_still, told_ends}
 use Rattle.engine_core.proofs.SendsLemmas.{open_told, opens_on, sends_grow, small_told, total_told}
+use Rattle.engine_core.proofs.SerialLemmas.{reads_trans}
 use Rattle.engine_core.proofs.StepLemmas.{ends_turned}
 
 -- what a turn did, in this edition
-pub record IsTurned {V : Type 0} (s : Session) (edits : List Edit) (old : Butler V) (answer : Result Turn ButlerFault) (new : Butler V) : Type 0 where
-  pub serving : IsServing s edits new
+pub record IsTurned {V : Type 0} (media : MediaOutside V) (s : Session) (e : Edition) (old : Butler V) (answer : Result Turn ButlerFault) (new : Butler V) : Type 0 where
+  pub serving : IsServing s e.edits new
   pub acks : TakesAll old.ends.acks new.ends.acks
-  pub rest : KeepsRest old new
-  pub sends : (t : ℕ) (d f : Sender Item) → slice_get old.ends.sends.items t ≡ Some d → slice_get new.ends.sends.items t ≡ Some f → SendsOf s edits old.cycles t (acks_of new.ends.acks.received) d f
-  pub answers : Answers s edits old.cycles (acks_of new.ends.acks.received) 1 old.ends.sends.items answer new.ends.sends.items
-  pub failed : new.failed ≡ (if is_err answer then true else old.failed)
-  pub quiet : old.failed ≡ true → answer ≡ Ok Idle
+  pub rest : KeepsRest media old new
+  pub sends : AllSend s e old new
+  pub answers : Answers s e 1 old answer new
+  pub fails : Fails old answer new
 
-module _ {V : Type 0} (s : Session) (c : Closing V) (closes : Closes s c) (ours : ProcessEnds) (theirs : ButlerEnds) (meet : EndsMeet c.ends c.butler.ends ours theirs) where
+module _ {V : Type 0} (s : Session) (c : Closing V) (closes : ClosesARun s c) (ours : ProcessEnds) (theirs : ButlerEnds) (meet : EndsMeet c.ends c.butler.ends ours theirs) where
   abbrev pub met : Butler V
   met = record c.butler { ends = theirs }
 
-  pub enters_met : Enters s c.edition.edits met c.edition
-  enters_met = record {
-    serving = (meeting_keeps s c.edition.edits (rested c.butler) c.butler.ends theirs (told_ends c.ends ours c.butler.ends theirs closes.ends meet)).0 closes.serving;
-    edition_of = closes.edition_of;
-    grows = ([], append-nil c.edition.edits);
-  }
+  pub serving_met : IsServing s c.edition.edits met
+  serving_met = (meeting_keeps s c.edition.edits (rested c.butler) c.butler.ends theirs (told_ends c.ends ours c.butler.ends theirs closes.ends meet)).0 closes.serving
 
-  module _ (b : Butler V) (answer : Result Turn ButlerFault) (turned : IsTurned s c.edition.edits met answer b) where
+  module _ {media : MediaOutside V} (b : Butler V) (answer : Result Turn ButlerFault) (turned : IsTurned media s c.edition met answer b) where
     serving : IsServing s c.edition.edits b
     serving = turned.serving
 
     many_met : length b.ends.sends.items ≡ length theirs.sends.items
-    many_met = serving.sends ∙ sym enters_met.serving.sends
+    many_met = serving.sends ∙ sym serving_met.sends
 
-    pub closes_on : Closes s record { edition = c.edition; butler = b; ends = ours }
+    pub closes_on : ClosesARun s record { edition = c.edition; butler = b; ends = ours }
     closes_on = record {
       edition_of = closes.edition_of;
       serving = serving;
@@ -67,8 +60,8 @@ module _ {V : Type 0} (s : Session) (c : Closing V) (closes : Closes s c) (ours 
     open_on open_before = opens_on s c.edition.edits c.butler.cycles (acks_of b.ends.acks.received) theirs.sends.items b.ends.sends.items many_met
         (open_told c.butler.ends.sends.items c.ends.plays.items theirs.sends.items ours.plays.items meet.plays closes.ends.plays open_before) answer turned.answers
 
-    pub mounts_on : Mounts c answer record { edition = c.edition; butler = b; ends = ours }
-    mounts_on = record {
+    pub sends_more_on : SendsMore c answer record { edition = c.edition; butler = b; ends = ours }
+    sends_more_on = record {
       many = serving.sends ∙ sym closes.serving.sends;
       small = small_told c.butler.ends.sends.items c.ends.plays.items theirs.sends.items ours.plays.items meet.plays;
       grows = omega (
@@ -76,9 +69,9 @@ module _ {V : Type 0} (s : Session) (c : Closing V) (closes : Closes s c) (ours 
         total_told c.butler.ends.sends.items c.ends.plays.items theirs.sends.items ours.plays.items meet.plays closes.ends.plays,
         sends_grow s c.edition.edits c.butler.cycles (acks_of b.ends.acks.received) theirs.sends.items b.ends.sends.items many_met turned.sends,
       );
-      failed = turned.failed;
-      quiet = turned.quiet;
-      more = λ n is. let leaves = subst (λ a. Answers s c.edition.edits c.butler.cycles (acks_of b.ends.acks.received) 1 theirs.sends.items a b.ends.sends.items) is turned.answers in
+      failed = turned.fails.failed;
+      quiet = λ was. (turned.fails.quiet was).idle;
+      more = λ n is. let leaves = subst (λ a. TurnAnswers s c.edition.edits c.butler.cycles (acks_of b.ends.acks.received) 1 theirs.sends.items a b.ends.sends.items) is turned.answers in
           omega (arith, leaves.0, leaves.1.sent, total_told c.butler.ends.sends.items c.ends.plays.items theirs.sends.items ours.plays.items meet.plays closes.ends.plays);
     }
 
@@ -107,28 +100,22 @@ hears_trans a b c p q = record {
 }
 
 module _ {V : Type 0} where
-  pub winds_refl : (tells : Type 0) (files : V → Files) (writes : V → ℕ) (c : Closing V) → Winds tells files writes c c
-  winds_refl tells files writes c = record {
-    closes = λ s was. was;
-    genuine = λ told s was genuine. genuine;
+  pub last_turns_refl : (media : MediaOutside V) (c : Closing V) → LastTurnsKeep media c c
+  last_turns_refl media c = record {
     edition = refl;
     sources = refl;
     plays = record { many = refl; each = λ t r hr. (r, hr, refl) };
     takes = refl;
     to_control = refl;
-    files_same = refl;
-    writes_same = refl;
+    only_reads = record { files = refl; other_count = refl };
   }
 
-  pub winds_trans : (tells : Type 0) (files : V → Files) (writes : V → ℕ) (a b c : Closing V) → Winds tells files writes a b → Winds tells files writes b c → Winds tells files writes a c
-  winds_trans tells files writes a b c p q = record {
-    closes = λ s was. q.closes s (p.closes s was);
-    genuine = λ told s was genuine. q.genuine told s (p.closes s was) (p.genuine told s was genuine);
+  pub last_turns_trans : (media : MediaOutside V) (a b c : Closing V) → LastTurnsKeep media a b → LastTurnsKeep media b c → LastTurnsKeep media a c
+  last_turns_trans media a b c p q = record {
     edition = q.edition ∙ p.edition;
     sources = q.sources ∙ p.sources;
     plays = hears_trans a.ends.plays.items b.ends.plays.items c.ends.plays.items p.plays q.plays;
     takes = q.takes ∙ p.takes;
     to_control = q.to_control ∙ p.to_control;
-    files_same = q.files_same ∙ p.files_same;
-    writes_same = q.writes_same ∙ p.writes_same;
+    only_reads = reads_trans media p.only_reads q.only_reads;
   }

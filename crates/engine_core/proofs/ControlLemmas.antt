@@ -13,7 +13,7 @@ use Rattle.engine_model.specs.Editions.{apply, changed, edition, refusal, unless
 use Rattle.engine_model.specs.Plain.{Run, accepted, export_commands, plain_from, with_edit, Do}
 use Rattle.edition_log.specs.declared.reason.Refusal.{Refusal}
 use Rattle.edition_log.specs.Reason.{refusal_of}
-use Rattle.edition_log.specs.Seen.{Seen as Edition, IsEditionOf, IsOpen, state_of}
+use Rattle.edition_log.specs.EditionState.{EditionState as Edition, IsEditionOf, IsOpen, state_of}
 use Rattle.edition_log.specs.Steps.{Applies, is_built}
 use Rattle.engine_core.specs.Control.{IsControlled, Obeys, edits_after}
 

@@ -11,7 +11,7 @@ use Rattle.engine_model.specs.Items.{Kind}
 use Rattle.engine_model.specs.Journal.{Entry, rolled, is_rolling_in}
 use Rattle.engine_model.specs.Due.{next_block}
 use Rattle.engine_model.specs.Plain.{plain_cycles, plain_entry}
-use Rattle.engine_laws.specs.Standing.{Standing, Receives}
+use Rattle.engine_laws.specs.JournalInvariant.{JournalInvariant, Receives}
 use Rattle.engine_laws.specs.TruthLaws.{TruthStands, HasLooked}
 use Rattle.engine_laws.specs.SerialLaws.{IsReady}
 use Rattle.engine_laws.proofs.SerialLemmas.{ready_entry_is_plain}
@@ -25,25 +25,48 @@ use Rattle.piece_item.specs.declared.ack.Ack.{Ack as Acknowledgement}
 use Rattle.piece_item.specs.Views.{ack_of as engine_ack}
 use Rattle.piece_item.specs.declared.item.Item.{Item}
 use Rattle.cycle_journal.specs.declared.entry.Entry.{Entry as Noted}
-use Rattle.cycle_journal.specs.Seen.{seen_entries, seen_entry}
+use Rattle.cycle_journal.specs.JournalView.{seen_entries, seen_entry}
 use Rattle.process_cycle.specs.declared.cycling.CycleFault.{CycleFault}
 use Rattle.process_cycle.specs.Ends.{AreOfOneRing}
-use Rattle.process_cycle.specs.Hands.{received_kinds}
+use Rattle.process_cycle.specs.SpareBoxes.{received_kinds}
 use Rattle.process_cycle.specs.Made.{Acknowledges, Cycles, MayCycle, ack_of, next_entry}
 use Rattle.process_cycle.specs.Playing.{IsPlaying}
-use Rattle.process_cycle.specs.Seen.{Seen as Process, entries_of}
+use Rattle.process_cycle.specs.ProcessState.{ProcessState as Process, entries_of}
 use Rattle.butler.specs.Sends.{acks_of, kinds}
 use Rattle.butler.proofs.TableLemmas.{next_more}
 use Rattle.engine_core.specs.declared.engine.Core.{Core}
 use Rattle.engine_core.specs.Running.{Runs, HasMet, HasLookedAround, IsTrueOfAll, received, noted}
 use Rattle.engine_core.specs.Plainly.{RunsPlainly, HasTaken, HasReceived, IsIdle, AreReady, generation_now, next_now}
 use Rattle.engine_core.proofs.MeetLemmas.{item_at, kinds_turned, mapped_at}
-use Rattle.engine_core.proofs.PlainlyLemmas.{all_taken, has_room}
+use Rattle.engine_core.proofs.PlainSendsLemmas.{has_room}
+use Rattle.engine_core.proofs.PlainTurnLemmas.{all_taken}
 
 -- an acknowledgement leaves the ring
 same_ring : (ack : Acknowledgement) (a b : Sender Acknowledgement) → Acknowledges ack a b → b.ring ≡ a.ring
 same_ring ack a b (inl puts) = ap (λ (z : Sender Acknowledgement). z.ring) puts.1.sent
 same_ring ack a b (inr refuses) = ap (λ (z : Sender Acknowledgement). z.ring) refuses.1.heads
+
+-- ---- another master
+
+abbrev pub given : {V W : Type 0} → Core V W → W → Core V W
+given c m = record c { process = record c.process { master = m } }
+
+module _ {V W : Type 0} (s : Session) (c : Core V W) (m : W) where
+  pub runs_given : Runs s c → IsPlaying s c.edition.edits (record c.process { master = m }) → Runs s (given c m)
+  runs_given r playing = record {
+    edition_of = r.edition_of;
+    recording = r.recording;
+    quit = r.quit;
+    serving = r.serving;
+    playing = playing;
+    ends = r.ends;
+    control = r.control;
+    asked = r.asked;
+    before = r.before;
+    journal_invariant = r.journal_invariant;
+    receives = r.receives;
+    truth = r.truth;
+  }
 
 module _ {V W : Type 0} (s : Session) (c : Core V W) (has : HasMet s c) (looked : HasLookedAround s c) where
   pub may_cycle : length c.process.journal.items < c.process.journal.room → MayCycle s c.edition c.process
@@ -80,7 +103,7 @@ module _ {V W : Type 0} (s : Session) (c : Core V W) (has : HasMet s c) (looked 
         subst (TruthStands edits s.depth t (kinds r.received) r.tails) (sym noted_now)
         (subst (λ l. TruthStands edits s.depth t l r.tails (noted c.process ++ next_entry s c.edition c.process ∷ [])) turned
         (truth_stands_with_its_entry s edits s.depth t was.before r.tails (received c.process) (received_kinds r) (noted c.process) (mapped_at received_kinds c.process.ends.plays.items t r hr)
-        has.standing.many (subst (λ l. HasLooked s.depth g (rolled g (reverse (noted c.process))) l was.before r.tails) (sym turned) was.look)
+        has.journal_invariant.many (subst (λ l. HasLooked s.depth g (rolled g (reverse (noted c.process))) l was.before r.tails) (sym turned) was.look)
         (subst (λ l. TruthStands edits s.depth t l was.before (noted c.process)) (sym turned) was.truth)))
 
     pub runs_after_a_cycle : Runs s (record c { process = p })
@@ -98,8 +121,8 @@ module _ {V W : Type 0} (s : Session) (c : Core V W) (has : HasMet s c) (looked 
       control = r.control ∙ sym (same_ring _ c.process.ends.to_control p.ends.to_control cycles.to_control);
       asked = ap (λ (j : Listed Noted). j.room) cycles.noted ∙ r.asked;
       before = received c.process;
-      standing = subst (Standing s c.edition.edits (received c.process)) (sym entries_now)
-          (stands_with_its_entry s c.edition.edits (received c.process) (entries_of c.process) has.standing not_quit not_recording);
+      journal_invariant = subst (JournalInvariant s c.edition.edits (received c.process)) (sym entries_now)
+          (stands_with_its_entry s c.edition.edits (received c.process) (entries_of c.process) has.journal_invariant not_quit not_recording);
       receives = subst (λ l. Receives (received c.process) (map received_kinds l.items)) (sym plays_same) record {
         many = refl;
         each = λ t xs ys hx hy. ([], same_Some ys xs (sym hy ∙ hx));
@@ -109,20 +132,7 @@ module _ {V W : Type 0} (s : Session) (c : Core V W) (has : HasMet s c) (looked 
 
   -- at a fault only the master changes
   runs_at_a_fault : (m : W) → IsPlaying s c.edition.edits (record c.process { master = m }) → Runs s (record c { process = record c.process { master = m } })
-  runs_at_a_fault m playing = let r = has.runs in record {
-    edition_of = r.edition_of;
-    recording = r.recording;
-    quit = r.quit;
-    serving = r.serving;
-    playing = playing;
-    ends = r.ends;
-    control = r.control;
-    asked = r.asked;
-    before = r.before;
-    standing = r.standing;
-    receives = r.receives;
-    truth = r.truth;
-  }
+  runs_at_a_fault m playing = runs_given s c m has.runs playing
 
   -- whatever it answers
   pub runs_on : (p : Process W) (answer : Result Unit CycleFault) → OnOk answer (Cycles s c.edition c.process p) → OnErr answer (p ≡ record c.process { master = p.master }) →
@@ -170,7 +180,7 @@ module _ {V W : Type 0} (s : Session) (c : Core V W) (has : HasMet s c) (looked 
       subst (IsReady s c.edition.edits t (generation_now c) (next_now c)) (same_Some (received_kinds r.0) xs (sym (mapped_at received_kinds c.process.ends.plays.items t r.0 r.1) ∙ here)) (ready t r.0 r.1)
 
   entry_is : next_entry s c.edition c.process ≡ plain_entry s c.edition.edits (entries_of c.process)
-  entry_is = ready_entry_is_plain s c.edition.edits (entries_of c.process) (received c.process) has.standing.many (not_recording s c has looked) ready_at
+  entry_is = ready_entry_is_plain s c.edition.edits (entries_of c.process) (received c.process) has.journal_invariant.many (not_recording s c has looked) ready_at
 
   sent_now : p.ends.to_butler.sent ≡ c.process.ends.to_butler.sent ++ ack_of p cycles.made ∷ []
   sent_now = not_refused (ack_of p cycles.made) c.process.ends.to_butler p.ends.to_butler c.butler.ends.acks cycles.to_butler has.acknowledged.got (all_taken s c has plain taken)

@@ -1,6 +1,6 @@
 -- How a run ends: the rings are closed, and joined again.
 use Rattle.std.proofs.Common.{◌≡◌, ℕ, zero, suc, ◌<◌, List, [], ◌∷◌, ◌++◌, length, refl, sym, ap, subst, ◌∙◌, arith}
-use Rattle.std.specs.Prelude.{true, map, reverse, slice_get, slice_index_or, Some, All}
+use Rattle.std.specs.Prelude.{true, map, slice_get, Some, All}
 use Rattle.std.proofs.lemmas.List.{map-append, length-map}
 use Rattle.std.proofs.lemmas.List.Elements.{All-head, All-tail}
 use Rattle.std.proofs.lemmas.Option.{slice_get_within, get_or_from_slice_get, same_Some}
@@ -8,14 +8,12 @@ use mathlib.Core.List.{IsPrefix}
 use Rattle.sound_model.specs.Regions.{Sounds}
 use Rattle.session_model.specs.declared.session.Session.{Session}
 use Rattle.session_model.specs.declared.edit.Edit.{Edit}
-use Rattle.engine_model.specs.Items.{Kind}
 use Rattle.engine_model.specs.Journal.{Entry}
 use Rattle.engine_model.specs.Order.{is_ordered}
 use Rattle.engine_model.specs.Played.{samples_of, IsGenuine}
 use Rattle.engine_model.specs.Truth.{IsTruthful}
 use Rattle.engine_laws.specs.TruthLaws.{TruthStands}
-use Rattle.engine_laws.proofs.TruthLemmas.{truth_stands_of_the_ring}
-use Rattle.cycle_journal.specs.Seen.{seen_entries}
+use Rattle.engine_laws.proofs.TruthfulLemmas.{truth_stands_of_the_ring}
 use Rattle.disk_ring.specs.Sender.{Sender}
 use Rattle.disk_ring.specs.Receiver.{Receiver}
 use Rattle.disk_ring.specs.Rings.{Whole, joined_of}
@@ -31,9 +29,9 @@ use Rattle.butler.specs.Serving.{AreGenuine}
 use Rattle.engine_core.specs.declared.closing.Closing.{Closing}
 use Rattle.engine_core.specs.declared.engine.Core.{Core}
 use Rattle.engine_core.specs.Rings.{AllWhole, joined_all}
-use Rattle.engine_core.specs.Running.{Runs, IsTrueOfAll, noted}
+use Rattle.engine_core.specs.Running.{Runs, IsTrueOfAll}
 use Rattle.engine_core.specs.Serial.{AreOpen}
-use Rattle.engine_core.specs.Ending.{Closes, HearsMore}
+use Rattle.engine_core.specs.Ending.{ClosesARun, HearsMore}
 use Rattle.engine_core.specs.Passed.{IsPassedOn, PassedOn, AllStayOpen}
 use Rattle.engine_core.proofs.MeetLemmas.{item_at, mapped_at}
 
@@ -50,7 +48,7 @@ shut_one_ring a b one = record {
 shut_others : (p : ProcessEnds) (b : ButlerEnds) → AreOtherEnds p b → AreOtherEnds (shut_ends p) b
 shut_others p b others = record { plays = others.plays; takes = shut_one_ring p.takes.items b.takes.items others.takes; acks = others.acks }
 
-pub closes_now : {V W : Type 0} (s : Session) (c : Core V W) (ends : ProcessEnds) → ends ≡ shut_ends c.process.ends → Runs s c → Closes s (record { edition = c.edition; butler = c.butler; ends = ends })
+pub closes_now : {V W : Type 0} (s : Session) (c : Core V W) (ends : ProcessEnds) → ends ≡ shut_ends c.process.ends → Runs s c → ClosesARun s (record { edition = c.edition; butler = c.butler; ends = ends })
 closes_now s c ends is runs = record { edition_of = runs.edition_of; serving = runs.serving; ends = subst (λ e. AreOtherEnds e c.butler.ends) (sym is) (shut_others c.process.ends c.butler.ends runs.ends) }
 
 -- what is true stays true while the ends only hear more
@@ -106,7 +104,7 @@ whole_at [] all t r here = absurd (omega (arith, slice_get_within [] t r here))
 whole_at (x ∷ xs) all zero r here = subst (λ (z : TrackRings). Whole z.plays × Whole z.takes) (same_Some x r here) (All-head (λ (z : TrackRings). Whole z.plays × Whole z.takes) x xs all)
 whole_at (x ∷ xs) all (suc t) r here = whole_at xs (All-tail (λ (z : TrackRings). Whole z.plays × Whole z.takes) x xs all) t r here
 
-module _ {V : Type 0} (s : Session) (c : Closing V) (closes : Closes s c) (rings : List TrackRings)
+module _ {V : Type 0} (s : Session) (c : Closing V) (closes : ClosesARun s c) (rings : List TrackRings)
     (joined : rings ≡ joined_all c.butler.ends.sends.items c.ends.plays.items c.ends.takes.items c.butler.ends.takes.items) (whole : AllWhole rings) where
   at : (t : ℕ) (r : TrackRings) → slice_get rings t ≡ Some r → Joints c.butler.ends.sends.items c.ends.plays.items c.ends.takes.items c.butler.ends.takes.items t r
   at t r here = joints c.butler.ends.sends.items c.ends.plays.items c.ends.takes.items c.butler.ends.takes.items t r (subst (λ l. slice_get l t ≡ Some r) joined here)

@@ -2,7 +2,10 @@
 pub mod RingLemmas
 pub mod JoiningLemmas
 pub mod MeetLemmas
+pub mod RunningLemmas
 pub mod StepLemmas
+pub mod PlainSendsLemmas
+pub mod PlainTurnLemmas
 pub mod PlainlyLemmas
 pub mod SendsLemmas
 pub mod AnswerLemmas

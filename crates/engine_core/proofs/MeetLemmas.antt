@@ -8,10 +8,10 @@ use Rattle.session_model.specs.declared.session.Session.{Session}
 use Rattle.engine_model.specs.Edits.{generation}
 use Rattle.engine_model.specs.Journal.{rolled}
 use Rattle.engine_model.specs.Order.{is_ordered_newest}
-use Rattle.engine_laws.specs.Standing.{AreOrdered, Receives}
+use Rattle.engine_laws.specs.JournalInvariant.{AreOrdered, Receives}
 use Rattle.engine_laws.specs.TruthLaws.{TruthStands}
 use Rattle.engine_laws.proofs.GrowLemmas.{ordered_received}
-use Rattle.engine_laws.proofs.StandingLemmas.{stands_while_receiving}
+use Rattle.engine_laws.proofs.JournalInvariantLemmas.{stands_while_receiving}
 use Rattle.disk_ring.specs.Sender.{Sender}
 use Rattle.disk_ring.specs.Receiver.{Receiver}
 use Rattle.piece_item.specs.declared.ack.Ack.{Ack}
@@ -19,11 +19,11 @@ use Rattle.piece_item.specs.declared.item.Item.{Item}
 use Rattle.piece_item.specs.declared.butler_ends.ButlerEnds.{ButlerEnds}
 use Rattle.piece_item.specs.Views.{item_of, kind_of}
 use Rattle.process_cycle.specs.declared.ends.ProcessEnds.{ProcessEnds}
-use Rattle.process_cycle.specs.Hands.{received_kinds}
+use Rattle.process_cycle.specs.SpareBoxes.{received_kinds}
 use Rattle.process_cycle.specs.Ends.{AllMeet, AreOfOneRing, AreOtherEnds, EndsMeet, Meet}
 use Rattle.process_cycle.specs.Playing.{IsPlaying}
-use Rattle.process_cycle.specs.Seen.{entries_of}
-use Rattle.butler.specs.Seen.{rested}
+use Rattle.process_cycle.specs.ProcessState.{entries_of}
+use Rattle.butler.specs.ButlerState.{rested}
 use Rattle.butler.specs.Laws.{AreTold}
 use Rattle.butler.specs.Sends.{kinds}
 use Rattle.butler.specs.Serving.{IsServing}
@@ -172,7 +172,7 @@ module _ {V W : Type 0} (s : Session) (c : Core V W) (ours : ProcessEnds) (their
       control = runs.control ∙ ap (λ r. r.ring) (sym meet.to_control);
       asked = runs.asked;
       before = runs.before;
-      standing = runs.standing;
+      journal_invariant = runs.journal_invariant;
       receives = receives;
       truth = true_still;
     }
@@ -182,7 +182,7 @@ module _ {V W : Type 0} (s : Session) (c : Core V W) (ours : ProcessEnds) (their
       runs = runs_on;
       knowing = knowing;
       acknowledged = know_all c.process.ends.to_butler ours.to_butler c.butler.ends.acks theirs.acks meet.acks;
-      standing = stands_while_receiving s c.edition.edits runs.before (map received_kinds ours.plays.items) (entries_of c.process) runs.standing receives ordered;
+      journal_invariant = stands_while_receiving s c.edition.edits runs.before (map received_kinds ours.plays.items) (entries_of c.process) runs.journal_invariant receives ordered;
     }
 
   pub has_looked_still : (looked : HasLookedAround s c) → IsPlaying s c.edition.edits (record c.process { ends = ours }) → HasLookedAround s after

@@ -1,51 +1,46 @@
 -- What a run leaves, from its start over its cycles to its end.
-use Rattle.std.proofs.Common.{◌≡◌, ℕ, ◌+◌, ◌-◌, ◌*◌, ◌≤◌, List, [], ◌∷◌, ◌++◌, length, refl, sym, ap, subst, ◌∙◌, arith}
-use Rattle.std.specs.Prelude.{Bool, true, false, if◌then◌else◌, is_ok, min, map, reverse, replicate, slice_get, Some, All}
+use Rattle.std.proofs.Common.{◌≡◌, ℕ, ◌-◌, ◌*◌, ◌≤◌, List, [], ◌∷◌, ◌++◌, length, refl, sym, ap, subst, ◌∙◌, arith}
+use Rattle.std.specs.Prelude.{Bool, true, false, if◌then◌else◌, is_ok, min, reverse, replicate, All}
 use Rattle.std.specs.List.{flat_map}
 use Rattle.std.proofs.lemmas.Bool.{true≢false}
-use Rattle.std.proofs.lemmas.List.{append-nil, append_assoc, length-map, reverse-reverse}
+use Rattle.std.proofs.lemmas.List.{append-nil, length-map, reverse-reverse}
 use Rattle.std.proofs.lemmas.List.Elements.{All-nil}
-use Rattle.sound_model.specs.Regions.{Sounds}
 use Rattle.sound_model.specs.Wav.{header}
 use Rattle.session_model.specs.declared.session.Session.{Session}
 use Rattle.session_model.specs.declared.edit.Edit.{Edit}
 use Rattle.session_model.specs.declared.edit.Edit.TheVariants.{Roll, Locate}
-use Rattle.session_model.specs.Valid.{IsValid}
-use Rattle.ses_io.specs.Files.{Files}
+use Rattle.ses_io.specs.Outside.{MediaOutside, SinkOutside, OnlyReads}
 use Rattle.ses_io.specs.FixedList.{Listed}
-use Rattle.engine_model.specs.Transport.{at_rest}
 use Rattle.engine_model.specs.Editions.{apply, edition}
 use Rattle.engine_model.specs.Fits.{is_lawful}
 use Rattle.engine_model.specs.Journal.{Entry}
-use Rattle.engine_model.specs.Plain.{Run as PlainRun, accepted, export_commands, plain, plain_cycles, plain_from, plain_run, with_edit, Do}
-use Rattle.engine_model.specs.PlainSession.{is_plain}
+use Rattle.engine_model.specs.Plain.{Run as PlainRun, accepted, export_commands, plain, plain_cycles, plain_from, with_edit, Do}
 use Rattle.engine_model.specs.Played.{IsGenuine, master_file, master_form, samples_of}
 use Rattle.engine_laws.specs.PlayedLaws.{block_bytes}
 use Rattle.engine_laws.proofs.MasterLemmas.{master_file_is_its_blocks}
-use Rattle.audio_source.specs.Opened.{Opened as Source}
+use Rattle.audio_source.specs.Opened.{OpenedSource as Source}
 use Rattle.audio_source.specs.Told.{source_sound}
 use Rattle.cycle_journal.specs.declared.entry.Entry.{Entry as Noted}
-use Rattle.cycle_journal.specs.Seen.{seen_entries, seen_entry}
-use Rattle.edition_log.specs.Seen.{Seen as Edition, IsEditionOf, IsOpen}
-use Rattle.disk_ring.specs.Sender.{Sender}
+use Rattle.cycle_journal.specs.JournalView.{seen_entries, seen_entry}
+use Rattle.edition_log.specs.EditionState.{EditionState as Edition, IsOpen}
 use Rattle.piece_item.specs.declared.item.Item.{Item}
 use Rattle.piece_item.specs.Views.{item_of}
 use Rattle.process_cycle.specs.declared.finished.Faults.{Faults}
-use Rattle.process_cycle.specs.declared.finished.TrackRings.{TrackRings}
-use Rattle.engine_core.specs.declared.engine.Core.{Core}
+use Rattle.butler.specs.Serving.{AreGenuine}
 use Rattle.engine_core.specs.declared.finishing.Closed.{Closed}
 use Rattle.engine_core.specs.declared.finishing.Ended.{Ended}
 use Rattle.engine_core.specs.declared.serial.Run.{Run}
-use Rattle.engine_core.specs.Control.{IsControlled, edits_after}
-use Rattle.engine_core.specs.Course.{GoesOpen, GoesPlainly, Makes, NotesFaults}
-use Rattle.engine_core.specs.Events.{Leaves, MayPlay, only_noted}
-use Rattle.engine_core.specs.Ending.{read_by}
-use Rattle.engine_core.specs.Finishing.{Lasts, Shuts}
-use Rattle.engine_core.specs.Passed.{AllGenuine, AllStayOpen, PassedOn}
+use Rattle.engine_core.specs.Begun.{Begun}
+use Rattle.engine_core.specs.Control.{IsControlled}
+use Rattle.engine_core.specs.RunInvariant.{IsFresh, IsPerforming, IsUnderWay, Makes, only_noted}
+use Rattle.engine_core.specs.Events.{IsLeft, IsPlayedOut, MayPlay}
+use Rattle.engine_core.specs.Finishing.{IsClosed, PartGivesBack, PartJoins, CloseLeaves}
+use Rattle.engine_core.specs.Passed.{AllGenuine, PassedOn}
 use Rattle.engine_core.specs.Running.{Runs, noted}
-use Rattle.engine_core.specs.Serial.{AreOpen, Carries, IsCounted, SendsGenuine, sounds_of}
-use Rattle.engine_core.specs.Starting.{HasStarted, MayStart, no_faults}
-use Rattle.engine_core.specs.Written.{IsCut, IsCutOff, IsWritten}
+use Rattle.engine_core.specs.Serial.{IsCounted}
+use Rattle.engine_core.specs.Starting.{HasStarted, IsTold, MayStart}
+use Rattle.engine_core.specs.Written.{IsCutOff, bytes_made}
+use Rattle.engine_core.proofs.SerialLemmas.{reads_same, reads_trans}
 
 -- ---- the plain journal of an export
 
@@ -101,140 +96,141 @@ no_silence n block none = ap (λ k. replicate {A = ℕ} (k * block * 2) 0) none 
 pub not_yet : (n : ℕ) → IsCounted n n false
 not_yet n = record { later = omega arith; kept = λ no. refl; raised = λ yes. absurd (true≢false (sym yes)) }
 
-module _ {V W : Type 0} (s : Session) (from cycles : ℕ) (e : Edition) (sources : List Source) (media : V) (master : W) (begun : Run V W) (may : MayPlay s e sources cycles) (new : Edition)
-    (controlled : IsControlled s from new) (started : HasStarted s new sources cycles media master begun) where
-  pub runs_first : Runs s begun.core
-  runs_first = started.plain.runs
+-- ---- the first cycle
 
-  pub none_yet : begun.core.process.journal.items ≡ []
-  none_yet = ap (λ (j : Listed Noted). j.items) started.journal_is
-
-  pub room_for_all : begun.core.process.journal.room ≡ cycles
-  room_for_all = ap (λ (j : Listed Noted). j.room) started.journal_is
-
-  pub nothing_failed : (begun.faults.read ≡ false) × (begun.faults.master ≡ false)
-  nothing_failed = (ap (λ (f : Faults). f.read) started.faults_is, ap (λ (f : Faults). f.master) started.faults_is)
-
-  pub genuine_first : (files : V → Files) → SendsGenuine files s begun.core
-  genuine_first files t d here = let edits = begun.core.edition.edits in let P = λ (i : Item). IsGenuine s edits (samples_of (sounds_of files begun.core) s edits) (item_of i) in
+module _ {V W : Type 0} (media : MediaOutside V) (sink : SinkOutside W) (begun : Begun) (e : Edition) (sources : List Source) (cycles : ℕ) (m : V) (master : W) (r : Run V W)
+    (started : HasStarted begun.session e sources cycles m master r) (told : IsTold media sink begun m sources master) where
+  genuine_first : AreGenuine begun.sounds begun.session r.core.edition.edits r.core.butler.ends.sends.items
+  genuine_first t d here = let edits = r.core.edition.edits in let P = λ (i : Item). IsGenuine begun.session edits (samples_of begun.sounds begun.session edits) (item_of i) in
       subst (All P) (sym (started.nothing_sent t d here)) (All-nil P)
 
-  module _ (tells : Type 0) (files : V → Files) (writes : V → ℕ) (made : Run V W) (carries : Carries tells files writes begun.core made.core) (makes : Makes cycles begun made) (notes : NotesFaults begun.faults made.faults)
-      (closed : Closed V W) (shuts : Shuts tells files writes made closed) (ended : Ended V W) (lasts : Lasts closed ended) where
-    abbrev edits : List Edit
-    edits = made.core.edition.edits
+  pub under_way_first : e.edits ≡ begun.edits → IsUnderWay media sink begun r
+  under_way_first edits = record {
+    running = record {
+      runs = started.plain.runs;
+      sends = record {
+        edits = ap (λ (z : Edition). z.edits) started.edition_is ∙ edits;
+        sounds = ap (λ o. source_sound (media.files r.core.butler.media) o) started.sources_is ∙ ap (λ v. source_sound (media.files v) sources) started.media_is ∙ sym told.sounds;
+        genuine = λ _. genuine_first;
+      };
+    };
+    plainly = λ read fine. (started.plain, started.all_received);
+    still_open = λ read. started.still_open;
+    reads = counted (media.read_faults r.core.butler.media) r.faults.read begun.reads (told.reads ∙ ap media.read_faults (sym started.media_is)) (ap (λ (f : Faults). f.read) started.faults_is);
+    writes = counted (sink.faults r.core.process.master) r.faults.master begun.writes (told.writes ∙ ap sink.faults (sym started.master_is)) (ap (λ (f : Faults). f.master) started.faults_is);
+    noted = started.faults_is ∙ ap (λ (f : Faults). only_noted f.read f.master) (sym started.faults_is);
+  } where
+    counted : (now : ℕ) (rose : Bool) (before : ℕ) → before ≡ now → rose ≡ false → IsCounted before now rose
+    counted now rose before same not = subst (λ n. IsCounted n now rose) (sym same) (subst (IsCounted now now) (sym not) (not_yet now))
 
-    abbrev journal : List Entry
-    journal = noted made.core.process
+  pub fresh_first : IsFresh sink begun cycles r
+  fresh_first = record {
+    none = ap (λ (j : Listed Noted). j.items) started.journal_is;
+    room = ap (λ (j : Listed Noted). j.room) started.journal_is;
+    fine = ap (λ (f : Faults). f.master) started.faults_is;
+    held = ap sink.held started.master_is ∙ sym told.held;
+  }
 
-    runs_made : Runs s made.core
-    runs_made = carries.runs s runs_first
+-- ---- the end
 
-    edition_is : made.core.edition ≡ new
-    edition_is = carries.remains.edition ∙ started.edition_is
+module _ {V W : Type 0} (media : MediaOutside V) (sink : SinkOutside W) (begun : Begun) (from cycles : ℕ) (accepted_are : begun.edits ≡ accepted begun.session cycles (export_commands from))
+    (first made : Run V W) (fresh : IsFresh sink begun cycles first) (performing : IsPerforming media sink begun made) (makes : Makes media cycles first made)
+    (closed : Closed V W) (is_closed : IsClosed media begun closed) (leaves : CloseLeaves media made closed) (ended : Ended V W) (gives_back : PartGivesBack closed ended)
+    (joins : PartJoins media begun closed ended) where
+  abbrev s : Session
+  s = begun.session
 
-    edits_last : ended.edits.items ≡ edits
-    edits_last = lasts.edits ∙ ap (λ (z : Edition). z.edits) shuts.edition
+  abbrev edits : List Edit
+  edits = made.core.edition.edits
 
-    journal_last : seen_entries ended.journal.items ≡ journal
-    journal_last = ap (λ (j : Listed Noted). seen_entries j.items) (lasts.journal ∙ shuts.journal)
+  abbrev journal : List Entry
+  journal = noted made.core.process
 
-    accepted_made : edits ≡ accepted s cycles (export_commands from)
-    accepted_made = ap (λ (z : Edition). z.edits) edition_is ∙ controlled.edits cycles
+  abbrev runs : Runs begun.session made.core
+  runs = performing.under_way.running.runs
 
-    long : length journal ≡ length made.core.process.journal.items
-    long = length-map made.core.process.journal.items seen_entry
+  edits_last : ended.edits.items ≡ edits
+  edits_last = gives_back.edits ∙ ap (λ (z : Edition). z.edits) leaves.edition
 
-    first_long : length begun.core.process.journal.items ≡ 0
-    first_long = ap (λ (l : List Noted). length l) none_yet
+  journal_last : seen_entries ended.journal.items ≡ journal
+  journal_last = ap (λ (j : Listed Noted). seen_entries j.items) (gives_back.journal ∙ leaves.journal)
 
-    master_failed : ended.faults.master ≡ made.faults.master
-    master_failed = ap (λ (f : Faults). f.master) (lasts.faults ∙ shuts.faults)
+  accepted_made : edits ≡ accepted s cycles (export_commands from)
+  accepted_made = performing.under_way.running.sends.edits ∙ accepted_are
 
-    read_failed : ended.faults.read ≡ closed.faults.read
-    read_failed = ap (λ (f : Faults). f.read) lasts.faults
+  long : length journal ≡ length made.core.process.journal.items
+  long = length-map made.core.process.journal.items seen_entry
 
-    all_made : made.faults.master ≡ false → length journal ≡ cycles
-    all_made fine = omega (arith, long, first_long, makes.all fine)
+  first_long : length first.core.process.journal.items ≡ 0
+  first_long = ap (λ (l : List Noted). length l) fresh.none
 
-    plain_made : (GoesPlainly s begun → GoesPlainly s made) → made.faults.read ≡ false → made.faults.master ≡ false → journal ≡ plain s cycles (export_commands from)
-    plain_made goes read fine = let run = (goes (λ r m. (started.plain, started.all_received)) read fine).0 in
-        sym (reverse-reverse journal) ∙ ap reverse (run.entries ∙ ap (λ n. plain_cycles s edits n []) (sym long ∙ all_made fine) ∙ ap (λ es. plain_cycles s es cycles []) accepted_made)
-        ∙ sym (plain_is s cycles from)
+  room : made.core.process.journal.room ≡ cycles
+  room = makes.remains.room ∙ fresh.room
 
-    pub leaves : (GoesPlainly s begun → GoesPlainly s made) → (GoesOpen begun → GoesOpen made) → PassedOn s closed.closing.edition.edits (seen_entries closed.journal.items) ended.rings.items →
-        (AreOpen closed.closing.butler.ends.sends.items → AllStayOpen ended.rings.items) →
-        Leaves s from cycles ended.edits.items (seen_entries ended.journal.items) ended.rings.items ended.faults
-    leaves plainly opens passed stay = record {
-      edits_are = edits_last ∙ accepted_made;
-      lawful = subst (λ es. is_lawful s es (seen_entries ended.journal.items) ≡ true) (sym edits_last) (subst (λ j. is_lawful s edits j ≡ true) (sym journal_last) runs_made.standing.lawful);
-      most = subst (λ j. length j ≤ cycles) (sym journal_last) (omega (arith, long, first_long, makes.most));
-      all = λ fine. ap length journal_last ∙ all_made (sym master_failed ∙ fine);
-      passed = subst (λ es. PassedOn s es (seen_entries ended.journal.items) ended.rings.items) (sym lasts.edits)
-          (subst (λ (j : Listed Noted). PassedOn s closed.closing.edition.edits (seen_entries j.items) ended.rings.items) (sym lasts.journal) passed);
-      still_open = λ fine. stay (shuts.still_open (opens (λ read. started.still_open)) (sym read_failed ∙ fine));
-      plainly = λ read fine. journal_last ∙ plain_made plainly (shuts.had_not (sym read_failed ∙ read)) (sym master_failed ∙ fine);
-      noted = let before = started.faults_is in lasts.faults ∙ shuts.faults ∙ ap (λ (f : Faults). record f { read = closed.faults.read }) (notes ∙ ap (λ (f : Faults). record f { read = made.faults.read; master = made.faults.master }) before)
-          ∙ ap (λ b. only_noted b made.faults.master) (sym read_failed) ∙ ap (λ b. only_noted ended.faults.read b) (sym master_failed);
-    }
+  master_failed : ended.faults.master ≡ made.faults.master
+  master_failed = ap (λ (f : Faults). f.master) (gives_back.faults ∙ leaves.faults)
 
-    files_are : files closed.closing.butler.media ≡ files media
-    files_are = shuts.files_same ∙ carries.files_same ∙ ap files started.media_is
+  read_failed : ended.faults.read ≡ closed.faults.read
+  read_failed = ap (λ (f : Faults). f.read) gives_back.faults
 
-    sources_are : closed.closing.butler.sources ≡ sources
-    sources_are = shuts.sources ∙ carries.remains.sources ∙ started.sources_is
+  all_made : made.faults.master ≡ false → length journal ≡ cycles
+  all_made fine = omega (arith, long, first_long, makes.all fine)
 
-    pub genuine_last : AllGenuine (read_by files closed.closing) s closed.closing.edition.edits ended.rings.items → AllGenuine (source_sound (files media) sources) s ended.edits.items ended.rings.items
-    genuine_last genuine = subst (λ es. AllGenuine (source_sound (files media) sources) s es ended.rings.items) (sym lasts.edits)
-        (subst (λ f. AllGenuine (source_sound f sources) s closed.closing.edition.edits ended.rings.items) files_are
-        (subst (λ o. AllGenuine (source_sound (files closed.closing.butler.media) o) s closed.closing.edition.edits ended.rings.items) sources_are genuine))
+  plain_made : made.faults.read ≡ false → made.faults.master ≡ false → journal ≡ plain s cycles (export_commands from)
+  plain_made read fine = let run = (performing.under_way.plainly read fine).0 in
+      sym (reverse-reverse journal) ∙ ap reverse (run.entries ∙ ap (λ n. plain_cycles s edits n []) (sym long ∙ all_made fine) ∙ ap (λ es. plain_cycles s es cycles []) accepted_made)
+      ∙ sym (plain_is s cycles from)
 
-    pub files_last : files ended.media ≡ files media
-    files_last = ap files lasts.media ∙ files_are
+  -- header, blocks and no silence are the file of the master
+  whole_file : made.faults.master ≡ false → bytes_made s begun.sounds made.core ≡ master_file s edits (samples_of begun.sounds s edits) cycles journal
+  whole_file fine = let samples = samples_of begun.sounds s edits in let all = all_made fine in let head = header (master_form s) (cycles * s.block * 2) in let blocks = flat_map (block_bytes s edits samples) journal in
+      ap (λ n. header (master_form s) (n * s.block * 2) ++ blocks) room ∙ sym (append-nil (head ++ blocks))
+      ∙ ap (λ l. head ++ blocks ++ l) (sym (no_silence (cycles - length journal) s.block (none_left all))) ∙ sym (master_file_is_its_blocks s edits samples cycles journal runs.playing.valid runs.serving.plain (omega (arith, all)))
+    where
+      none_left : length journal ≡ cycles → cycles - length journal ≡ 0
+      none_left all = omega (arith, all)
 
-    pub writes_last : writes ended.media ≡ writes media
-    writes_last = ap writes lasts.media ∙ shuts.writes_same ∙ carries.writes_same ∙ ap writes started.media_is
+  master_last : media.tells → sink.tells → ended.faults.master ≡ false →
+      sink.held ended.master ≡ begun.held ++ master_file s ended.edits.items (samples_of begun.sounds s ended.edits.items) cycles (seen_entries ended.journal.items)
+  master_last told tells fine = let ok = sym master_failed ∙ fine in
+      ap sink.held (gives_back.master ∙ leaves.master) ∙ performing.written told tells ok
+      ∙ ap (λ l. begun.held ++ l) (whole_file ok
+      ∙ ap (λ es. master_file s es (samples_of begun.sounds s es) cycles journal) (sym edits_last) ∙ ap (λ j. master_file s ended.edits.items (samples_of begun.sounds s ended.edits.items) cycles j) (sym journal_last))
 
-    sounds_are : sounds_of files made.core ≡ source_sound (files media) sources
-    sounds_are = ap (λ o. source_sound (files made.core.butler.media) o) (carries.remains.sources ∙ started.sources_is) ∙ ap (λ f. source_sound f sources) (carries.files_same ∙ ap files started.media_is)
+  cut_last : media.tells → sink.tells → ended.faults.master ≡ true →
+      IsCutOff begun.held (sink.held ended.master) s ended.edits.items (samples_of begun.sounds s ended.edits.items) cycles (seen_entries ended.journal.items)
+  cut_last told tells bad = let now = sink.held ended.master in
+      subst (λ l. IsCutOff begun.held now s ended.edits.items (samples_of begun.sounds s ended.edits.items) cycles l) (sym journal_last)
+      (subst (λ es. IsCutOff begun.held now s es (samples_of begun.sounds s es) cycles journal) (sym edits_last)
+      (subst (λ n. IsCutOff begun.held now s edits (samples_of begun.sounds s edits) n journal) room
+      (subst (λ m. IsCutOff begun.held (sink.held m) s edits (samples_of begun.sounds s edits) made.core.process.journal.room journal) (sym (gives_back.master ∙ leaves.master))
+      (performing.cut told tells (sym master_failed ∙ bad)))))
 
-    -- header, blocks and no silence are the file of the master
-    whole_file : (sounds : Sounds) → made.faults.master ≡ false → header (master_form s) (made.core.process.journal.room * s.block * 2) ++ flat_map (block_bytes s edits (samples_of sounds s edits)) journal
-        ≡ master_file s edits (samples_of sounds s edits) cycles journal
-    whole_file sounds fine = let samples = samples_of sounds s edits in let all = all_made fine in let head = header (master_form s) (cycles * s.block * 2) in let blocks = flat_map (block_bytes s edits samples) journal in
-        ap (λ n. header (master_form s) (n * s.block * 2) ++ blocks) (carries.remains.room ∙ room_for_all) ∙ sym (append-nil (head ++ blocks))
-        ∙ ap (λ l. head ++ blocks ++ l) (sym (no_silence (cycles - length journal) s.block (none_left all))) ∙ sym (master_file_is_its_blocks s edits samples cycles journal runs_made.playing.valid runs_made.serving.plain (omega (arith, all)))
-      where
-        none_left : length journal ≡ cycles → cycles - length journal ≡ 0
-        none_left all = omega (arith, all)
+  leaves_last : IsPlayedOut s from cycles ended.edits.items (seen_entries ended.journal.items) ended.rings.items ended.faults
+  leaves_last = record {
+    edits_are = edits_last ∙ accepted_made;
+    lawful = subst (λ es. is_lawful s es (seen_entries ended.journal.items) ≡ true) (sym edits_last) (subst (λ j. is_lawful s edits j ≡ true) (sym journal_last) runs.journal_invariant.lawful);
+    most = subst (λ j. length j ≤ cycles) (sym journal_last) (omega (arith, long, first_long, makes.most));
+    all = λ fine. ap length journal_last ∙ all_made (sym master_failed ∙ fine);
+    passed = subst (λ es. PassedOn s es (seen_entries ended.journal.items) ended.rings.items) (sym gives_back.edits)
+        (subst (λ (j : Listed Noted). PassedOn s closed.closing.edition.edits (seen_entries j.items) ended.rings.items) (sym gives_back.journal) joins.passed);
+    still_open = λ fine. joins.still_open (is_closed.still_open (sym read_failed ∙ fine));
+    plainly = λ read fine. journal_last ∙ plain_made (leaves.had_not (sym read_failed ∙ read)) (sym master_failed ∙ fine);
+    noted = gives_back.faults ∙ leaves.faults ∙ ap (λ (f : Faults). record f { read = closed.faults.read }) performing.under_way.noted
+        ∙ ap (λ b. only_noted b made.faults.master) (sym read_failed) ∙ ap (λ b. only_noted ended.faults.read b) (sym master_failed);
+  }
 
-    pub master_last : (held : W → List ℕ) → (made.faults.master ≡ false → IsWritten held (held begun.core.process.master) s (sounds_of files made.core) made.core) → ended.faults.master ≡ false →
-        held ended.master ≡ held master ++ master_file s ended.edits.items (samples_of (source_sound (files media) sources) s ended.edits.items) cycles (seen_entries ended.journal.items)
-    master_last held written fine = let ok = sym master_failed ∙ fine in let sounds = source_sound (files media) sources in
-        ap held (lasts.master ∙ shuts.master) ∙ written ok ∙ ap (λ m. held m ++ (header (master_form s) (made.core.process.journal.room * s.block * 2)
-        ++ flat_map (block_bytes s edits (samples_of (sounds_of files made.core) s edits)) journal)) started.master_is
-        ∙ ap (λ l. held master ++ l) (whole_file (sounds_of files made.core) ok ∙ ap (λ h. master_file s edits (samples_of h s edits) cycles journal) sounds_are
-        ∙ ap (λ es. master_file s es (samples_of sounds s es) cycles journal) (sym edits_last) ∙ ap (λ j. master_file s ended.edits.items (samples_of sounds s ended.edits.items) cycles j) (sym journal_last))
+  pub is_left : IsLeft media sink begun from cycles ended
+  is_left = record {
+    leaves = leaves_last;
+    genuine = λ told. subst (λ es. AllGenuine begun.sounds s es ended.rings.items) (sym gives_back.edits) (joins.genuine told);
+    master = master_last;
+    front = cut_last;
+    reads = subst (IsCounted begun.reads (media.read_faults ended.media)) (sym read_failed)
+        (subst (λ v. IsCounted begun.reads (media.read_faults v) closed.faults.read) (sym gives_back.media) is_closed.reads);
+    writes = subst (IsCounted begun.writes (sink.faults ended.master)) (sym master_failed)
+        (subst (λ w. IsCounted begun.writes (sink.faults w) made.faults.master) (sym (gives_back.master ∙ leaves.master)) performing.under_way.writes);
+  }
 
-    pub cut_last : (held : W → List ℕ) → (begun.faults.master ≡ false → made.faults.master ≡ true → IsCut held (held begun.core.process.master) s (sounds_of files made.core) made.core) → ended.faults.master ≡ true →
-        IsCutOff (held master) (held ended.master) s ended.edits.items (samples_of (source_sound (files media) sources) s ended.edits.items) cycles (seen_entries ended.journal.items)
-    cut_last held cut bad = let sounds = source_sound (files media) sources in let now = held ended.master in let first = held master in
-        subst (λ l. IsCutOff first now s ended.edits.items (samples_of sounds s ended.edits.items) cycles l) (sym journal_last)
-        (subst (λ es. IsCutOff first now s es (samples_of sounds s es) cycles journal) (sym edits_last)
-        (subst (λ n. IsCutOff first now s edits (samples_of sounds s edits) n journal) (carries.remains.room ∙ room_for_all)
-        (subst (λ h. IsCutOff first now s edits (samples_of h s edits) made.core.process.journal.room journal) sounds_are
-        (subst (λ m. IsCutOff (held m) now s edits (samples_of (sounds_of files made.core) s edits) made.core.process.journal.room journal) started.master_is
-        (subst (λ m. IsCutOff (held begun.core.process.master) (held m) s edits (samples_of (sounds_of files made.core) s edits) made.core.process.journal.room journal) (sym (lasts.master ∙ shuts.master))
-        (cut nothing_failed.1 (sym master_failed ∙ bad)))))))
-
-    pub writes_counted : (faults : W → ℕ) → ((n : ℕ) → IsCounted n (faults begun.core.process.master) begun.faults.master → IsCounted n (faults made.core.process.master) made.faults.master) →
-        IsCounted (faults master) (faults ended.master) ended.faults.master
-    writes_counted faults counts = subst (IsCounted (faults master) (faults ended.master)) (sym master_failed)
-        (subst (λ m. IsCounted (faults master) (faults m) made.faults.master) (sym (lasts.master ∙ shuts.master)) (counts (faults master)
-        (subst (λ m. IsCounted (faults master) (faults m) begun.faults.master) (sym started.master_is) (subst (IsCounted (faults master) (faults master)) (sym nothing_failed.1) (not_yet (faults master))))))
-
-    pub reads_counted : (reads : V → ℕ) → ((n : ℕ) → IsCounted n (reads begun.core.butler.media) begun.faults.read → IsCounted n (reads made.core.butler.media) made.faults.read) →
-        ((n : ℕ) → IsCounted n (reads made.core.butler.media) made.faults.read → IsCounted n (reads closed.closing.butler.media) closed.faults.read) → IsCounted (reads media) (reads ended.media) ended.faults.read
-    reads_counted reads counts shut = subst (IsCounted (reads media) (reads ended.media)) (sym read_failed)
-        (subst (λ m. IsCounted (reads media) (reads m) closed.faults.read) (sym lasts.media) (shut (reads media) (counts (reads media)
-        (subst (λ m. IsCounted (reads media) (reads m) begun.faults.read) (sym started.media_is) (subst (IsCounted (reads media) (reads media)) (sym nothing_failed.0) (not_yet (reads media)))))))
+  pub only_reads : (m : V) → first.core.butler.media ≡ m → OnlyReads media m ended.media
+  only_reads m is = reads_trans media (reads_same media is) (reads_trans media makes.only_reads (reads_trans media leaves.only_reads (reads_same media gives_back.media)))

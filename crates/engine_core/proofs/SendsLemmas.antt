@@ -15,10 +15,10 @@ use Rattle.butler.specs.declared.turning.Turn.{Turn}
 use Rattle.butler.specs.declared.turning.Turn.TheVariants.{Moved, Idle}
 use Rattle.butler.specs.declared.faults.ButlerFault.{ButlerFault}
 use Rattle.butler.specs.Sends.{SendsOf}
-use Rattle.butler.specs.Turns.{Answers, total_sent}
+use Rattle.butler.specs.Turns.{TurnAnswers, total_sent}
 use Rattle.engine_core.specs.Serial.{AreOpen}
 use Rattle.engine_core.proofs.MeetLemmas.{item_at, some_receiver, told_of}
-use Rattle.engine_core.proofs.PlainlyLemmas.{never_less}
+use Rattle.engine_core.proofs.PlainSendsLemmas.{never_less}
 
 same_total : (xs ys : List (Sender Item)) → length ys ≡ length xs → ((t : ℕ) (d f : Sender Item) → slice_get xs t ≡ Some d → slice_get ys t ≡ Some f → f.sent ≡ d.sent) →
     total_sent ys ≡ total_sent xs
@@ -60,7 +60,7 @@ module _ (s : Session) (edits : List Edit) (cycles : ℕ) (acks : List Ack) (xs 
   pub sends_grow : ((t : ℕ) (d f : Sender Item) → slice_get xs t ≡ Some d → slice_get ys t ≡ Some f → SendsOf s edits cycles t acks d f) → total_sent xs ≤ total_sent ys
   sends_grow sends = never_less xs ys many (λ t d f hd hf. let one = sends t d f hd hf in omega (arith, ap length one.sent, length-append d.sent one.items))
 
-  pub opens_on : AreOpen xs → (a : Result Turn ButlerFault) → Answers s edits cycles acks 1 xs a ys → OnOk a (AreOpen ys)
+  pub opens_on : AreOpen xs → (a : Result Turn ButlerFault) → TurnAnswers s edits cycles acks 1 xs a ys → OnOk a (AreOpen ys)
   opens_on open_before (Ok (Moved n)) leaves = still_open open_before leaves.1.still_open
   opens_on open_before (Ok Idle) leaves = still_open open_before leaves.still_open
   opens_on open_before (Err e) closed = tt

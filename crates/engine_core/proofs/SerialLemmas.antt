@@ -1,36 +1,38 @@
 -- Turns, looks and cycles one after another.
 use Rattle.std.proofs.Common.{◌≡◌, ℕ, ◌+◌, ◌-◌, ◌*◌, ◌<◌, ◌≤◌, List, length, refl, sym, ap, subst, ◌∙◌, arith}
 use Rattle.std.specs.Prelude.{Bool, true, false, if◌then◌else◌, is_err, Result, Ok, Err, OnOk, OnErr}
-use Rattle.std.proofs.lemmas.Bool.{true≢false}
 use Rattle.std.proofs.lemmas.List.{length_push}
-use Rattle.sound_model.specs.Regions.{Sounds}
 use Rattle.session_model.specs.declared.session.Session.{Session}
-use Rattle.ses_io.specs.Faults.{HasCause, risen}
-use Rattle.ses_io.specs.Files.{Files}
 use Rattle.ses_io.specs.FixedList.{Listed}
 use Rattle.cycle_journal.specs.declared.entry.Entry.{Entry as Noted}
-use Rattle.audio_source.specs.Told.{source_sound}
-use Rattle.audio_source.specs.Opened.{Opened}
 use Rattle.disk_ring.specs.Sender.{Sender}
 use Rattle.piece_item.specs.declared.item.Item.{Item}
 use Rattle.process_cycle.specs.declared.process.Look.{Look}
 use Rattle.process_cycle.specs.declared.cycling.CycleFault.{CycleFault}
 use Rattle.process_cycle.specs.Ends.{AreOtherEnds}
 use Rattle.process_cycle.specs.Made.{Cycles}
-use Rattle.process_cycle.specs.Seen.{Seen as Process}
+use Rattle.process_cycle.specs.ProcessState.{ProcessState as Process}
 use Rattle.butler.specs.declared.turning.Turn.{Turn}
 use Rattle.butler.specs.declared.turning.Turn.TheVariants.{Moved}
 use Rattle.butler.specs.declared.faults.ButlerFault.{ButlerFault}
 use Rattle.butler.specs.Sends.{acks_of}
-use Rattle.butler.specs.Serving.{AreGenuine}
-use Rattle.butler.specs.Turns.{Answers, total_sent}
+use Rattle.butler.specs.Turns.{TurnAnswers, total_sent}
 use Rattle.engine_core.specs.declared.engine.Core.{Core}
 use Rattle.engine_core.specs.Running.{Runs}
 use Rattle.engine_core.specs.Steps.{Meets, Turns, LooksAround, PlaysOn}
-use Rattle.engine_core.specs.Serial.{AreOpen, Carries, IsCounted, Remains, SendsGenuine, Stays, sounds_of}
+use Rattle.engine_core.specs.Serial.{AreOpen, StepKeeps, Remains, WritesNothing}
+use Rattle.engine_core.specs.RunInvariant.{Makes}
+use Rattle.engine_core.specs.declared.serial.Run.{Run}
+use Rattle.ses_io.specs.Outside.{MediaOutside, OnlyReads}
 use Rattle.engine_core.specs.Answers.{is_idle}
 use Rattle.engine_core.proofs.AnswerLemmas.{falls, left_to_do}
 use Rattle.engine_core.proofs.SendsLemmas.{most, small_told, total_told, open_told, opens_on, sends_grow}
+
+pub reads_trans : {V : Type 0} (media : MediaOutside V) {a b c : V} → OnlyReads media a b → OnlyReads media b c → OnlyReads media a c
+reads_trans media p q = record { files = q.files ∙ p.files; other_count = q.other_count ∙ p.other_count }
+
+pub reads_same : {V : Type 0} (media : MediaOutside V) {a b : V} → b ≡ a → OnlyReads media a b
+reads_same media same = record { files = ap media.files same; other_count = ap media.write_faults same }
 
 module _ {V W : Type 0} where
   -- ---- one after another
@@ -38,34 +40,17 @@ module _ {V W : Type 0} where
   pub remains_trans : (a b c : Core V W) → Remains a b → Remains b c → Remains a c
   remains_trans a b c p q = record { edition = q.edition ∙ p.edition; sources = q.sources ∙ p.sources; cycles = q.cycles ∙ p.cycles; room = q.room ∙ p.room }
 
-  pub stays_trans : (a b c : Core V W) → Stays a b → Stays b c → Stays a c
-  stays_trans a b c p q = record { master = q.master ∙ p.master; journal = q.journal ∙ p.journal }
+  pub nothing_trans : (a b c : Core V W) → WritesNothing a b → WritesNothing b c → WritesNothing a c
+  nothing_trans a b c p q = record { master = q.master ∙ p.master; journal = q.journal ∙ p.journal }
 
-  pub carries_refl : (tells : Type 0) (files : V → Files) (writes : V → ℕ) (c : Core V W) → Carries tells files writes c c
-  carries_refl tells files writes c = record {
+  pub keeps_refl : (media : MediaOutside V) (c : Core V W) → StepKeeps media c c
+  keeps_refl media c = record {
     remains = record { edition = refl; sources = refl; cycles = refl; room = refl };
-    runs = λ s runs. runs;
-    genuine = λ told s runs genuine. genuine;
-    files_same = refl;
-    writes_same = refl;
+    only_reads = record { files = refl; other_count = refl };
   }
 
-  pub carries_trans : (tells : Type 0) (files : V → Files) (writes : V → ℕ) (a b c : Core V W) → Carries tells files writes a b → Carries tells files writes b c → Carries tells files writes a c
-  carries_trans tells files writes a b c p q = record {
-    remains = remains_trans a b c p.remains q.remains;
-    runs = λ s runs. q.runs s (p.runs s runs);
-    genuine = λ told s runs genuine. q.genuine told s (p.runs s runs) (p.genuine told s runs genuine);
-    files_same = q.files_same ∙ p.files_same;
-    writes_same = q.writes_same ∙ p.writes_same;
-  }
-
-  pub sounds_same : (files : V → Files) (a b : Core V W) → files b.butler.media ≡ files a.butler.media → b.butler.sources ≡ a.butler.sources → sounds_of files b ≡ sounds_of files a
-  sounds_same files a b told sources = ap (λ (f : Files). source_sound f b.butler.sources) told ∙ ap (λ (o : List Opened). source_sound (files a.butler.media) o) sources
-
-  -- what is genuine by the sounds of one is so by the same sounds of another
-  pub same_sounds : (files : V → Files) (s : Session) (a b : Core V W) → files b.butler.media ≡ files a.butler.media → b.butler.sources ≡ a.butler.sources →
-      AreGenuine (sounds_of files a) s b.edition.edits b.butler.ends.sends.items → SendsGenuine files s b
-  same_sounds files s a b told sources genuine = subst (λ (h : Sounds). AreGenuine h s b.edition.edits b.butler.ends.sends.items) (sym (sounds_same files a b told sources)) genuine
+  pub keeps_trans : (media : MediaOutside V) (a b c : Core V W) → StepKeeps media a b → StepKeeps media b c → StepKeeps media a c
+  keeps_trans media a b c p q = record { remains = remains_trans a b c p.remains q.remains; only_reads = reads_trans media p.only_reads q.only_reads }
 
 -- ---- a meeting
 
@@ -81,7 +66,7 @@ module _ {V W : Type 0} (old new : Core V W) (meets : Meets old new) where
 
 -- ---- a turn
 
-module _ {V W : Type 0} (s : Session) (old : Core V W) (answer : Result Turn ButlerFault) (new : Core V W) (turns : Turns s old answer new) where
+module _ {V W : Type 0} (s : Session) (old : Core V W) (answer : Result Turn ButlerFault) (new : Core V W) {media : MediaOutside V} (turns : Turns media s old answer new) where
   pub turn_remains : Remains old new
   turn_remains = let met = turns.meets.same in let same = turns.same in record {
     edition = ap (λ (z : Core V W). z.edition) same ∙ ap (λ (z : Core V W). z.edition) met;
@@ -90,16 +75,11 @@ module _ {V W : Type 0} (s : Session) (old : Core V W) (answer : Result Turn But
     room = ap (λ (z : Core V W). z.process.journal.room) same ∙ ap (λ (z : Core V W). z.process.journal.room) met;
   }
 
-  pub turn_stays : Stays old new
-  turn_stays = let met = turns.meets.same in let same = turns.same in record {
+  pub turn_writes_nothing : WritesNothing old new
+  turn_writes_nothing = let met = turns.meets.same in let same = turns.same in record {
     master = ap (λ (z : Core V W). z.process.master) same ∙ ap (λ (z : Core V W). z.process.master) met;
     journal = ap (λ (z : Core V W). z.process.journal) same ∙ ap (λ (z : Core V W). z.process.journal) met;
   }
-
-  pub turn_carries : (tells : Type 0) (files : V → Files) (writes : V → ℕ) → ((h : Session) → Runs h old → Runs h new) →
-      (tells → (h : Session) → Runs h old → SendsGenuine files h old → SendsGenuine files h new) → files new.butler.media ≡ files old.butler.media → writes new.butler.media ≡ writes old.butler.media →
-      Carries tells files writes old new
-  turn_carries tells files writes runs genuine told counted = record { remains = turn_remains; runs = runs; genuine = genuine; files_same = told; writes_same = counted }
 
   module _ (before : Runs s old) (after : Runs s new) where
     abbrev sent_to : List (Sender Item)
@@ -114,7 +94,7 @@ module _ {V W : Type 0} (s : Session) (old : Core V W) (answer : Result Turn But
 
     -- a turn that moves sends more
     pub turn_total : (n : ℕ) → answer ≡ Ok (Moved n) → total_sent old.butler.ends.sends.items < total_sent new.butler.ends.sends.items
-    turn_total n is = let leaves = subst (λ a. Answers s turns.met.edition.edits turns.met.butler.cycles (acks_of new.butler.ends.acks.received) 1 sent_to a new.butler.ends.sends.items) is turns.answers in
+    turn_total n is = let leaves = subst (λ a. TurnAnswers s turns.met.edition.edits turns.met.butler.cycles (acks_of new.butler.ends.acks.received) 1 sent_to a new.butler.ends.sends.items) is turns.answers in
         omega (arith, leaves.0, leaves.1.sent, total_met old turns.met turns.meets before.ends)
 
     pub turn_many : length new.butler.ends.sends.items ≡ length old.butler.ends.sends.items
@@ -133,7 +113,7 @@ module _ {V W : Type 0} (s : Session) (old : Core V W) (answer : Result Turn But
     -- a turn that isn't Idle leaves less to do
     pub turn_falls : is_idle answer ≡ false → left_to_do new.butler.ends.sends.items new.butler.failed < left_to_do old.butler.ends.sends.items old.butler.failed
     turn_falls busy = falls answer old.butler.ends.sends.items new.butler.ends.sends.items old.butler.failed new.butler.failed busy turn_many (small_met old turns.met turns.meets) turn_grows turn_total
-        (turns.failed ∙ ap (λ b. if is_err answer then true else b) met_failed) (λ was. turns.quiet (met_failed ∙ was))
+        (turns.fails.failed ∙ ap (λ b. if is_err answer then true else b) met_failed) (λ was. (turns.fails.quiet (met_failed ∙ was)).idle)
 
 -- ---- a look
 
@@ -146,8 +126,8 @@ module _ {V W : Type 0} (s : Session) (old : Core V W) (answer : Look) (new : Co
     room = ap (λ j. j.room) looks.keeps.journal ∙ ap (λ (z : Core V W). z.process.journal.room) met;
   }
 
-  pub look_stays : Stays old new
-  look_stays = let met = looks.meets.same in record {
+  pub look_writes_nothing : WritesNothing old new
+  look_writes_nothing = let met = looks.meets.same in record {
     master = looks.keeps.master ∙ ap (λ (z : Core V W). z.process.master) met;
     journal = looks.keeps.journal ∙ ap (λ (z : Core V W). z.process.journal) met;
   }
@@ -176,15 +156,8 @@ module _ {V W : Type 0} (s : Session) (old : Core V W) (answer : Look) (new : Co
       ∙ ap (λ n. (length old.butler.ends.sends.items * most + 1 - n) * 2 + (if new.butler.failed then 0 else 1)) (look_total others)
       ∙ ap (λ (b : Bool). (length old.butler.ends.sends.items * most + 1 - total_sent old.butler.ends.sends.items) * 2 + (if b then 0 else 1)) look_failed
 
-  pub look_carries : (tells : Type 0) (files : V → Files) (writes : V → ℕ) → ((h : Session) (sounds : Sounds) → AreGenuine sounds h old.edition.edits old.butler.ends.sends.items →
-      AreGenuine sounds h new.edition.edits new.butler.ends.sends.items) → ((h : Session) → Runs h old → Runs h new) → Carries tells files writes old new
-  look_carries tells files writes genuine runs = record {
-    remains = look_remains;
-    runs = runs;
-    genuine = λ told h before was. same_sounds files h old new (ap files look_media) look_remains.sources (genuine h (sounds_of files old) was);
-    files_same = ap files look_media;
-    writes_same = ap writes look_media;
-  }
+  pub look_keeps : (media : MediaOutside V) → StepKeeps media old new
+  look_keeps media = record { remains = look_remains; only_reads = reads_same media look_media }
 
 -- ---- a cycle
 
@@ -213,6 +186,9 @@ module _ {V W : Type 0} (s : Session) (old : Core V W) (answer : Result Unit Cyc
   pub entry_media : new.butler.media ≡ old.butler.media
   entry_media = ap (λ (z : Core V W). z.butler.media) plays.same ∙ ap (λ (z : Core V W). z.butler.media) plays.meets.same
 
+  pub entry_keeps : (media : MediaOutside V) → StepKeeps media old new
+  entry_keeps media = record { remains = entry_remains; only_reads = reads_same media entry_media }
+
   journal_met : length plays.met.process.journal.items ≡ length old.process.journal.items
   journal_met = ap (λ (z : Core V W). length z.process.journal.items) plays.meets.same
 
@@ -225,39 +201,16 @@ module _ {V W : Type 0} (s : Session) (old : Core V W) (answer : Result Unit Cyc
   pub entry_open : AreOtherEnds old.process.ends old.butler.ends → AreOpen old.butler.ends.sends.items → AreOpen new.butler.ends.sends.items
   entry_open others open_before = subst AreOpen (sym (ap (λ (z : Core V W). z.butler.ends.sends.items) plays.same)) (open_met old plays.met plays.meets others open_before)
 
--- ---- what failed
+-- ---- how many cycles were made
 
-module _ {T E : Type 0} (answer : Result T E) (was now : Bool) (is : now ≡ (if is_err answer then true else was)) where
-  -- where nothing has failed now, nothing had, and this didn't
-  pub had_not : now ≡ false → was ≡ false
-  had_not not = by answer is where
-    by : (a : Result T E) → now ≡ (if is_err a then true else was) → was ≡ false
-    by (Ok u) is = sym is ∙ not
-    by (Err e) is = absurd (true≢false (sym is ∙ not))
+module _ {V W : Type 0} (media : MediaOutside V) where
+  pub makes_none : (r : Run V W) → Makes media 0 r r
+  makes_none r = record { most = omega arith; all = λ fine. omega arith; remains = record { edition = refl; sources = refl; cycles = refl; room = refl }; only_reads = record { files = refl; other_count = refl } }
 
-  pub did_not : now ≡ false → (A : Type 0) → OnOk answer A → A
-  did_not not A = by answer is where
-    by : (a : Result T E) → now ≡ (if is_err a then true else was) → OnOk a A → A
-    by (Ok u) is held = held
-    by (Err e) is held = absurd (true≢false (sym is ∙ not))
-
-  -- where something has failed now and nothing had, this did
-  pub did : now ≡ true → was ≡ false → (A : Type 0) → OnErr answer A → A
-  did has had A = by answer is where
-    by : (a : Result T E) → now ≡ (if is_err a then true else was) → OnErr a A → A
-    by (Ok u) is held = absurd (true≢false (sym has ∙ is ∙ had))
-    by (Err e) is held = held
-
-  pub counted_on : (before mid after : ℕ) → IsCounted before mid was → HasCause mid after answer → IsCounted before after now
-  counted_on before mid after counted cause = by answer is cause.later cause.kept cause.rose where
-    by : (a : Result T E) → now ≡ (if is_err a then true else was) → mid ≤ after → OnOk a (after ≡ mid) → OnErr a (risen mid ≤ after) → IsCounted before after now
-    by (Ok u) is later kept rose = record {
-      later = omega (arith, counted.later, later);
-      kept = λ not. kept ∙ counted.kept (sym is ∙ not);
-      raised = λ yes. omega (arith, later, counted.raised (sym is ∙ yes));
-    }
-    by (Err e) is later kept rose = record {
-      later = omega (arith, counted.later, later);
-      kept = λ not. absurd (true≢false (sym is ∙ not));
-      raised = λ yes. omega (arith, rose, counted.later);
-    }
+  pub makes_on : (n m k : ℕ) (a b c : Run V W) → k ≡ n + m → (c.faults.master ≡ false → b.faults.master ≡ false) → Makes media n a b → Makes media m b c → Makes media k a c
+  makes_on n m k a b c is fine p q = record {
+    most = omega (arith, is, p.most, q.most);
+    all = λ good. omega (arith, is, p.all (fine good), q.all good);
+    remains = remains_trans a.core b.core c.core p.remains q.remains;
+    only_reads = reads_trans media p.only_reads q.only_reads;
+  }

@@ -1,6 +1,6 @@
 -- What a run has when it starts.
-use Rattle.std.proofs.Common.{◌≡◌, ℕ, zero, suc, ◌<◌, List, [], ◌∷◌, ◌++◌, length, refl, sym, ap, subst, ◌∙◌, inl, arith}
-use Rattle.std.specs.Prelude.{true, false, map, replicate, reverse, slice_get, slice_index_or, Some}
+use Rattle.std.proofs.Common.{◌≡◌, ℕ, zero, suc, ◌<◌, List, [], ◌++◌, length, refl, sym, ap, subst, ◌∙◌, inl, arith}
+use Rattle.std.specs.Prelude.{true, replicate, reverse, slice_get, slice_index_or, Some}
 use Rattle.std.proofs.lemmas.List.{append-nil, length-map, length-replicate}
 use Rattle.std.proofs.lemmas.Option.{slice_get_within, get_or_from_slice_get, same_Some}
 use Rattle.session_model.specs.declared.session.Session.{Session}
@@ -11,37 +11,34 @@ use Rattle.engine_model.specs.Journal.{rolled}
 use Rattle.engine_model.specs.Order.{is_ordered_newest}
 use Rattle.engine_model.specs.Due.{next_block}
 use Rattle.engine_model.specs.Plain.{plain_cycles}
-use Rattle.engine_laws.specs.Standing.{Standing, Receives}
+use Rattle.engine_laws.specs.JournalInvariant.{JournalInvariant, Receives}
 use Rattle.engine_laws.specs.SerialLaws.{AreFew, none_is_held}
-use Rattle.engine_laws.specs.TruthLaws.{TruthStands}
 use Rattle.ses_io.specs.FixedList.{Listed}
-use Rattle.audio_source.specs.Opened.{Opened}
+use Rattle.audio_source.specs.Opened.{OpenedSource}
 use Rattle.cycle_journal.specs.declared.entry.Entry.{Entry as Noted}
-use Rattle.cycle_journal.specs.Seen.{seen_entries}
-use Rattle.edition_log.specs.Seen.{Seen as Edition, IsEditionOf}
+use Rattle.cycle_journal.specs.JournalView.{seen_entries}
+use Rattle.edition_log.specs.EditionState.{EditionState as Edition, IsEditionOf}
 use Rattle.disk_ring.specs.Sender.{Sender}
 use Rattle.disk_ring.specs.Receiver.{Receiver}
 use Rattle.piece_item.specs.declared.ack.Ack.{Ack}
 use Rattle.piece_item.specs.declared.item.Item.{Item}
-use Rattle.process_cycle.specs.declared.deck.Deck.{Deck}
 use Rattle.process_cycle.specs.declared.ends.ProcessEnds.{ProcessEnds}
 use Rattle.process_cycle.specs.Answers.{AllLook, Keeps}
 use Rattle.process_cycle.specs.Ends.{AreNew, AreOfOneRing, AreOtherEnds, IsNewIn, IsNewOut, block_of}
-use Rattle.process_cycle.specs.Hands.{received_kinds}
-use Rattle.process_cycle.specs.Playing.{IsPlaying, spot_of}
-use Rattle.process_cycle.specs.Seen.{Seen as Process, entries_of}
-use Rattle.butler.specs.Seen.{Seen as Butler}
+use Rattle.process_cycle.specs.SpareBoxes.{received_kinds}
+use Rattle.process_cycle.specs.Playing.{IsPlaying, position_of}
+use Rattle.process_cycle.specs.ProcessState.{ProcessState as Process, entries_of}
+use Rattle.butler.specs.ButlerState.{ButlerState as Butler}
 use Rattle.butler.specs.Sends.{acks_of, kinds}
 use Rattle.butler.specs.Serving.{IsGiven, IsServing, MayBegin}
 use Rattle.butler.proofs.KeepLemmas.{session_is}
 use Rattle.engine_core.specs.declared.engine.Core.{Core}
-use Rattle.engine_core.specs.declared.serial.Run.{Run}
-use Rattle.engine_core.specs.declared.wiring.Wiring.{Wiring}
+use Rattle.engine_core.specs.declared.run_ends.RunEnds.{RunEnds}
 use Rattle.engine_core.specs.Rings.{AreRings, IsRing}
 use Rattle.engine_core.specs.Running.{Runs, IsTrueOfAll, noted, received}
 use Rattle.engine_core.specs.Plainly.{RunsPlainly, HasReceived, IsPlainTrack, generation_now}
-use Rattle.engine_core.specs.Starting.{HasStarted, IsWired, MayStart, no_faults}
-use Rattle.engine_core.proofs.MeetLemmas.{item_at, mapped_at, some_receiver, some_sender}
+use Rattle.engine_core.specs.Starting.{HasStarted, AreNewRunEnds, MayStart, no_faults}
+use Rattle.engine_core.proofs.MeetLemmas.{item_at, some_receiver, some_sender}
 
 -- ---- new rings
 
@@ -71,45 +68,45 @@ new_rings s many a b all = record {
   ring = λ t x y within. one_ring s.depth (block_of s t) (slice_index_or a t x) (slice_index_or b t y) (all.2 t x y (omega (arith, within, all.0)));
 }
 
-module _ (s : Session) (w : Wiring) (wired : IsWired s w) where
+module _ (s : Session) (w : RunEnds) (new_ends : AreNewRunEnds s w) where
   pub are_new : AreNew s w.process
   are_new = record {
-    plays = wired.items.1;
-    takes = wired.takes.0;
-    each_play = λ t r within. let a = some_sender r in new_out s.depth (block_of s t) (slice_index_or w.butler.sends.items t a) (slice_index_or w.process.plays.items t r) (wired.items.2 t a r within);
-    each_take = λ t a within. let r = some_receiver a in new_in s.depth (block_of s t) (slice_index_or w.process.takes.items t a) (slice_index_or w.butler.takes.items t r) (wired.takes.2 t a r within);
-    to_butler = new_in s.depth 0 w.process.to_butler w.butler.acks wired.to_butler;
-    to_control = new_in s.depth 0 w.process.to_control w.acks wired.to_control;
+    plays = new_ends.items.1;
+    takes = new_ends.takes.0;
+    each_play = λ t r within. let a = some_sender r in new_out s.depth (block_of s t) (slice_index_or w.butler.sends.items t a) (slice_index_or w.process.plays.items t r) (new_ends.items.2 t a r within);
+    each_take = λ t a within. let r = some_receiver a in new_in s.depth (block_of s t) (slice_index_or w.process.takes.items t a) (slice_index_or w.butler.takes.items t r) (new_ends.takes.2 t a r within);
+    to_butler = new_in s.depth 0 w.process.to_butler w.butler.acks new_ends.to_butler;
+    to_control = new_in s.depth 0 w.process.to_control w.acks new_ends.to_control;
   }
 
   others : AreOtherEnds w.process w.butler
   others = record {
-    plays = new_rings s (length s.tracks.items) w.butler.sends.items w.process.plays.items wired.items;
-    takes = new_rings s (length s.tracks.items) w.process.takes.items w.butler.takes.items wired.takes;
-    acks = one_ring s.depth 0 w.process.to_butler w.butler.acks wired.to_butler;
+    plays = new_rings s (length s.tracks.items) w.butler.sends.items w.process.plays.items new_ends.items;
+    takes = new_rings s (length s.tracks.items) w.process.takes.items w.butler.takes.items new_ends.takes;
+    acks = one_ring s.depth 0 w.process.to_butler w.butler.acks new_ends.to_butler;
   }
 
   sender_at : (t : ℕ) (d : Sender Item) → slice_get w.butler.sends.items t ≡ Some d → IsNewIn s.depth (block_of s t) d
-  sender_at t d here = let r = some_receiver d in let within : t < length s.tracks.items = omega (arith, slice_get_within w.butler.sends.items t d here, wired.items.0) in
+  sender_at t d here = let r = some_receiver d in let within : t < length s.tracks.items = omega (arith, slice_get_within w.butler.sends.items t d here, new_ends.items.0) in
       subst (IsNewIn s.depth (block_of s t)) (get_or_from_slice_get w.butler.sends.items t d d here)
-      (new_in s.depth (block_of s t) (slice_index_or w.butler.sends.items t d) (slice_index_or w.process.plays.items t r) (wired.items.2 t d r within))
+      (new_in s.depth (block_of s t) (slice_index_or w.butler.sends.items t d) (slice_index_or w.process.plays.items t r) (new_ends.items.2 t d r within))
 
-  pub may_begin : (e : Edition) (sources : List Opened) (cycles : ℕ) → MayStart s e sources cycles → MayBegin s e sources cycles w.butler
-  may_begin e sources cycles may = let acks = new_out s.depth 0 w.process.to_butler w.butler.acks wired.to_butler in record {
+  pub may_begin : (e : Edition) (sources : List OpenedSource) (cycles : ℕ) → MayStart s e sources cycles → MayBegin s e sources cycles w.butler
+  may_begin e sources cycles may = let acks = new_out s.depth 0 w.process.to_butler w.butler.acks new_ends.to_butler in record {
     plain = may.plain;
     edition_of = may.edition_of;
     sources_of = may.listed;
     some_cycle = may.some_cycle;
     near = may.near;
-    tracks = wired.items.0;
+    tracks = new_ends.items.0;
     each = λ t d here. let new = sender_at t d here in record { deep = new.depth; wide = new.room; nothing_sent = new.sent; not_closed = new.closed };
     acks_room = acks.room;
     none_received = acks.received;
     not_ended = acks.ended;
   }
 
-pub wired_for : (s : Session) (e : Edition) (w : Wiring) → IsEditionOf s e → IsWired e.session w → IsWired s w
-wired_for s e w is wired = subst (λ (z : Session). IsWired z w) (session_is s e is) wired
+pub new_for : (s : Session) (e : Edition) (w : RunEnds) → IsEditionOf s e → AreNewRunEnds e.session w → AreNewRunEnds s w
+new_for s e w is new_ends = subst (λ (z : Session). AreNewRunEnds z w) (session_is s e is) new_ends
 
 pub playing_for : {W : Type 0} (s : Session) (e : Edition) (p : Process W) → IsEditionOf s e → IsPlaying e.session [] p → IsPlaying s [] p
 playing_for s e p is playing = subst (λ (z : Session). IsPlaying z [] p) (session_is s e is) playing
@@ -121,18 +118,18 @@ nil_at zero t xs here = absurd (omega (arith, slice_get_within (replicate zero [
 nil_at (suc n) zero xs here = sym (same_Some [] xs here)
 nil_at (suc n) (suc t) xs here = nil_at n t xs here
 
-standing_first : (s : Session) (edits : List Edit) → Standing s edits (replicate (length s.tracks.items) []) []
-standing_first s edits = record {
+invariant_first : (s : Session) (edits : List Edit) → JournalInvariant s edits (replicate (length s.tracks.items) []) []
+invariant_first s edits = record {
   lawful = refl;
   many = length-replicate (length s.tracks.items) [];
   ordered = λ t xs here. subst (λ l. is_ordered_newest s edits t l ≡ true) (sym (nil_at (length s.tracks.items) t xs here)) refl;
   stand = tt;
 }
 
-module _ {V W : Type 0} (s : Session) (e : Edition) (sources : List Opened) (cycles : ℕ) (media : V) (master : W) (may : MayStart s e sources cycles) (w : Wiring) (wired : IsWired s w)
+module _ {V W : Type 0} (s : Session) (e : Edition) (sources : List OpenedSource) (cycles : ℕ) (media : V) (master : W) (may : MayStart s e sources cycles) (w : RunEnds) (new_ends : AreNewRunEnds s w)
     (b : Butler V) (serving : IsServing s e.edits b) (given : IsGiven media sources cycles w.butler b)
     (first p : Process W) (first_ends : first.ends ≡ w.process) (first_master : first.master ≡ master) (first_journal : first.journal ≡ record { items = []; room = cycles })
-    (playing : IsPlaying s e.edits p) (keeps : Keeps first p) (looks : AllLook (spot_of p) first.ends.plays.items first.decks p.ends.plays.items p.decks) (first_decks : length first.decks ≡ length s.tracks.items)
+    (playing : IsPlaying s e.edits p) (keeps : Keeps first p) (looks : AllLook (position_of p) first.ends.plays.items first.playbacks p.ends.plays.items p.playbacks) (first_playbacks : length first.playbacks ≡ length s.tracks.items)
   where
     abbrev core : Core V W
     core = record { edition = e; butler = b; process = p; acks = w.acks }
@@ -147,14 +144,14 @@ module _ {V W : Type 0} (s : Session) (e : Edition) (sources : List Opened) (cyc
     first_plays = sym keeps.plays ∙ playing.plays
 
     same_rings : (t : ℕ) (r : Receiver Item) → t < length s.tracks.items → (slice_index_or p.ends.plays.items t r).ring ≡ (slice_index_or w.process.plays.items t r).ring
-    same_rings t r within = let d = item_at first.decks t (omega (arith, within, first_decks)) in (looks t r d.0 (omega (arith, within, first_plays))).ring.ring
+    same_rings t r within = let d = item_at first.playbacks t (omega (arith, within, first_playbacks)) in (looks t r d.0 (omega (arith, within, first_plays))).ring.ring
         ∙ ap (λ (ends : ProcessEnds). (slice_index_or ends.plays.items t r).ring) first_ends
 
     ends_are : AreOtherEnds p.ends b.ends
-    ends_are = let was = others s w wired in subst (AreOtherEnds p.ends) (sym given.ends_is) (record {
+    ends_are = let was = others s w new_ends in subst (AreOtherEnds p.ends) (sym given.ends_is) (record {
       plays = record {
-        count = plays_many ∙ sym wired.items.0;
-        ring = λ t x r within. same_rings t r (omega (arith, within, wired.items.0)) ∙ was.plays.ring t x r within;
+        count = plays_many ∙ sym new_ends.items.0;
+        ring = λ t x r within. same_rings t r (omega (arith, within, new_ends.items.0)) ∙ was.plays.ring t x r within;
       };
       takes = subst (λ l. AreOfOneRing l.items w.butler.takes.items) (sym (keeps.takes ∙ ap (λ (ends : ProcessEnds). ends.takes) first_ends)) was.takes;
       acks = was.acks ∙ sym (ap (λ (z : Sender Ack). z.ring) (keeps.to_butler ∙ ap (λ (ends : ProcessEnds). ends.to_butler) first_ends));
@@ -183,19 +180,19 @@ module _ {V W : Type 0} (s : Session) (e : Edition) (sources : List Opened) (cyc
       serving = serving;
       playing = playing;
       ends = ends_are;
-      control = one_ring s.depth 0 w.process.to_control w.acks wired.to_control ∙ sym (ap (λ (z : Sender Ack). z.ring) (keeps.to_control ∙ ap (λ (ends : ProcessEnds). ends.to_control) first_ends));
+      control = one_ring s.depth 0 w.process.to_control w.acks new_ends.to_control ∙ sym (ap (λ (z : Sender Ack). z.ring) (keeps.to_control ∙ ap (λ (ends : ProcessEnds). ends.to_control) first_ends));
       asked = ap (λ (j : Listed Noted). j.room) journal_is ∙ sym given.cycles_is;
       before = replicate (length s.tracks.items) [];
-      standing = subst (Standing s e.edits (replicate (length s.tracks.items) [])) (sym no_entries) (standing_first s e.edits);
+      journal_invariant = subst (JournalInvariant s e.edits (replicate (length s.tracks.items) [])) (sym no_entries) (invariant_first s e.edits);
       receives = receives_first;
       truth = true_first;
     }
 
     new_at : (t : ℕ) (d : Sender Item) → slice_get b.ends.sends.items t ≡ Some d → IsNewIn s.depth (block_of s t) d
-    new_at t d here = sender_at s w wired t d (subst (λ ends. slice_get ends.sends.items t ≡ Some d) given.ends_is here)
+    new_at t d here = sender_at s w new_ends t d (subst (λ ends. slice_get ends.sends.items t ≡ Some d) given.ends_is here)
 
     no_acks : p.ends.to_butler.sent ≡ []
-    no_acks = ap (λ (z : Sender Ack). z.sent) (keeps.to_butler ∙ ap (λ (ends : ProcessEnds). ends.to_butler) first_ends) ∙ (new_in s.depth 0 w.process.to_butler w.butler.acks wired.to_butler).sent
+    no_acks = ap (λ (z : Sender Ack). z.sent) (keeps.to_butler ∙ ap (λ (ends : ProcessEnds). ends.to_butler) first_ends) ∙ (new_in s.depth 0 w.process.to_butler w.butler.acks new_ends.to_butler).sent
 
     few : (g k : ℕ) → AreFew g k cycles []
     few g k = record { each_once = omega arith; within = omega arith }

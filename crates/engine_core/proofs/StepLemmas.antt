@@ -11,9 +11,9 @@ use Rattle.engine_model.specs.Edits.{generation}
 use Rattle.engine_model.specs.Items as engine
 use Rattle.engine_model.specs.Items.{Kind}
 use Rattle.engine_model.specs.Journal.{rolled}
-use Rattle.engine_laws.specs.Standing.{Standing, Receives}
+use Rattle.engine_laws.specs.JournalInvariant.{JournalInvariant, Receives}
 use Rattle.engine_laws.specs.TruthLaws.{TruthStands, HasLooked}
-use Rattle.engine_laws.proofs.TruthLemmas.{truth_stands_while_receiving}
+use Rattle.engine_laws.proofs.TruthfulLemmas.{truth_stands_while_receiving}
 use Rattle.disk_ring.specs.Sender.{Sender}
 use Rattle.disk_ring.specs.Receiver.{Receiver}
 use Rattle.piece_item.specs.declared.ack.Ack.{Ack}
@@ -21,33 +21,34 @@ use Rattle.piece_item.specs.declared.item.Item.{Item}
 use Rattle.piece_item.specs.declared.butler_ends.ButlerEnds.{ButlerEnds}
 use Rattle.process_cycle.specs.declared.ends.ProcessEnds.{ProcessEnds}
 use Rattle.cycle_journal.specs.declared.entry.Entry.{Entry as Noted}
-use Rattle.cycle_journal.specs.Seen.{seen_entries}
+use Rattle.cycle_journal.specs.JournalView.{seen_entries}
 use Rattle.ses_io.specs.FixedList.{Listed}
 use Rattle.process_cycle.specs.Cycles.{AllLooked}
 use Rattle.piece_item.specs.Views.{item_of, kind_of}
-use Rattle.process_cycle.specs.declared.deck.Deck.{Deck}
-use Rattle.process_cycle.specs.declared.deck.Hand.{Hand}
-use Rattle.process_cycle.specs.declared.deck.Hand.TheVariants.{Husk, Held, Away}
-use Rattle.process_cycle.specs.declared.spot.Spot.{Spot}
+use Rattle.process_cycle.specs.declared.playback.TrackPlayback.{TrackPlayback}
+use Rattle.process_cycle.specs.declared.playback.SpareBox.{SpareBox}
+use Rattle.process_cycle.specs.declared.playback.SpareBox.TheVariants.{Husk, Held, Lent}
+use Rattle.process_cycle.specs.declared.play_position.PlayPosition.{PlayPosition}
 use Rattle.process_cycle.specs.Answers.{AllLook, Keeps}
 use Rattle.process_cycle.specs.Ends.{AreOfOneRing, AreOtherEnds}
-use Rattle.process_cycle.specs.Hands.{held, offers, received_kinds, HoldsTheLast}
+use Rattle.process_cycle.specs.SpareBoxes.{held, offers, received_kinds, HoldsTheLast}
 use Rattle.process_cycle.specs.Looks.{EndsWith, Looks}
-use Rattle.process_cycle.specs.Playing.{IsPlaying, spot_of}
-use Rattle.process_cycle.specs.Seen.{Seen as Process, entries_of}
-use Rattle.butler.specs.Seen.{Seen as Butler}
+use Rattle.process_cycle.specs.Playing.{IsPlaying, position_of}
+use Rattle.process_cycle.specs.ProcessState.{ProcessState as Process, entries_of}
+use Rattle.butler.specs.ButlerState.{ButlerState as Butler}
 use Rattle.butler.specs.Sends.{kinds, acks_of, SendsOf}
 use Rattle.butler.specs.Serving.{IsServing}
 use Rattle.butler.specs.Table.{TakesAll}
-use Rattle.butler.specs.Turns.{Enters, KeepsRest}
+use Rattle.butler.specs.Turns.{KeepsRest}
+use Rattle.ses_io.specs.Outside.{MediaOutside}
 use Rattle.engine_core.specs.declared.engine.Core.{Core}
 use Rattle.engine_core.specs.Running.{Runs, HasMet, HasLookedAround, received, noted}
 use Rattle.engine_core.proofs.MeetLemmas.{item_at, kinds_turned, mapped_at}
 
 -- a held item is the last one received
-pub held_is_last : (b : Receiver Item) (hand : Hand) (x : engine.Item) → held hand ≡ x ∷ [] → HoldsTheLast b hand → kinds b.received ≡ reverse (map (λ i. i.kind) (offers b hand)) ++ x.kind ∷ []
-held_is_last b hand x is last = let rest = map (λ i. i.kind) (offers b hand) in sym (reverse-reverse (kinds b.received)) ∙ ap reverse (sym (kinds_turned b.received))
-    ∙ ap (λ l. reverse (map (λ i. i.kind) l)) (last ∙ ap (λ l. l ++ offers b hand) is) ∙ reverse-append (x.kind ∷ []) rest
+pub held_is_last : (b : Receiver Item) (spare : SpareBox) (x : engine.Item) → held spare ≡ x ∷ [] → HoldsTheLast b spare → kinds b.received ≡ reverse (map (λ i. i.kind) (offers b spare)) ++ x.kind ∷ []
+held_is_last b spare x is last = let rest = map (λ i. i.kind) (offers b spare) in sym (reverse-reverse (kinds b.received)) ∙ ap reverse (sym (kinds_turned b.received))
+    ∙ ap (λ l. reverse (map (λ i. i.kind) l)) (last ∙ ap (λ l. l ++ offers b spare) is) ∙ reverse-append (x.kind ∷ []) rest
 
 -- a turn leaves the ends of the same rings
 pub ends_turned : (s : Session) (edits : List Edit) (cycles : ℕ) (taken : List Told) (p : ProcessEnds) (old new : ButlerEnds) → AreOtherEnds p old → length new.sends.items ≡ length old.sends.items →
@@ -68,10 +69,7 @@ ends_turned s edits cycles taken p old new was many takes acks sends = record {
 module _ {V W : Type 0} (s : Session) (c : Core V W) (has : HasMet s c) where
   -- ---- a turn
 
-  pub enters_again : Enters s c.edition.edits c.butler c.edition
-  enters_again = record { serving = has.runs.serving; edition_of = has.runs.edition_of; grows = ([], append-nil c.edition.edits) }
-
-  module _ (b : Butler V) (serving : IsServing s c.edition.edits b) (acks : TakesAll c.butler.ends.acks b.ends.acks) (rest : KeepsRest c.butler b)
+  module _ {media : MediaOutside V} (b : Butler V) (serving : IsServing s c.edition.edits b) (acks : TakesAll c.butler.ends.acks b.ends.acks) (rest : KeepsRest media c.butler b)
       (sends : (t : ℕ) (d f : Sender Item) → slice_get c.butler.ends.sends.items t ≡ Some d → slice_get b.ends.sends.items t ≡ Some f →
       SendsOf s c.edition.edits c.butler.cycles t (acks_of b.ends.acks.received) d f) where
     ends_after : AreOtherEnds c.process.ends b.ends
@@ -88,7 +86,7 @@ module _ {V W : Type 0} (s : Session) (c : Core V W) (has : HasMet s c) where
       control = r.control;
       asked = r.asked ∙ sym rest.cycles;
       before = r.before;
-      standing = r.standing;
+      journal_invariant = r.journal_invariant;
       receives = r.receives;
       truth = r.truth;
     }
@@ -96,20 +94,20 @@ module _ {V W : Type 0} (s : Session) (c : Core V W) (has : HasMet s c) where
   -- ---- a look
 
   module _ (p : Process W) (playing : IsPlaying s c.edition.edits p) (keeps : Keeps c.process p)
-      (looks : AllLook (spot_of p) c.process.ends.plays.items c.process.decks p.ends.plays.items p.decks) where
+      (looks : AllLook (position_of p) c.process.ends.plays.items c.process.playbacks p.ends.plays.items p.playbacks) where
     -- the look of a track
     pub look_at : (t : ℕ) (b : Receiver Item) → slice_get p.ends.plays.items t ≡ Some b →
-        (a : Receiver Item) × (slice_get c.process.ends.plays.items t ≡ Some a) × ((d e : Deck) × Looks (spot_of p) a d b e)
+        (a : Receiver Item) × (slice_get c.process.ends.plays.items t ≡ Some a) × ((d e : TrackPlayback) × Looks (position_of p) a d b e)
     look_at t b hb = let within : t < length c.process.ends.plays.items = omega (arith, slice_get_within p.ends.plays.items t b hb, keeps.plays) in
         let a = item_at c.process.ends.plays.items t within in
-        let d = item_at c.process.decks t (omega (arith, within, has.runs.playing.plays, has.runs.playing.decks)) in (
+        let d = item_at c.process.playbacks t (omega (arith, within, has.runs.playing.plays, has.runs.playing.playbacks)) in (
           a.0,
           a.1,
           (
-            get_or c.process.decks t d.0,
-            get_or p.decks t d.0,
-            subst (λ z. Looks (spot_of p) z (get_or c.process.decks t d.0) b (get_or p.decks t d.0)) (get_or_from_slice_get c.process.ends.plays.items t a.0 a.0 a.1)
-                (subst (λ z. Looks (spot_of p) (get_or c.process.ends.plays.items t a.0) (get_or c.process.decks t d.0) z (get_or p.decks t d.0)) (get_or_from_slice_get p.ends.plays.items t b a.0 hb)
+            get_or c.process.playbacks t d.0,
+            get_or p.playbacks t d.0,
+            subst (λ z. Looks (position_of p) z (get_or c.process.playbacks t d.0) b (get_or p.playbacks t d.0)) (get_or_from_slice_get c.process.ends.plays.items t a.0 a.0 a.1)
+                (subst (λ z. Looks (position_of p) (get_or c.process.ends.plays.items t a.0) (get_or c.process.playbacks t d.0) z (get_or p.playbacks t d.0)) (get_or_from_slice_get p.ends.plays.items t b a.0 hb)
                 (looks t a.0 d.0 within)),
           ),
         )
@@ -164,12 +162,12 @@ module _ {V W : Type 0} (s : Session) (c : Core V W) (has : HasMet s c) where
       control = r.control ∙ ap (λ (z : Sender Ack). z.ring) (sym keeps.to_control);
       asked = ap (λ (j : Listed Noted). j.room) keeps.journal ∙ r.asked;
       before = received c.process;
-      standing = subst (λ j. Standing s c.edition.edits (received c.process) (reverse (seen_entries j.items))) (sym keeps.journal) has.standing;
+      journal_invariant = subst (λ j. JournalInvariant s c.edition.edits (received c.process) (reverse (seen_entries j.items))) (sym keeps.journal) has.journal_invariant;
       receives = receives_now;
       truth = λ t b hb. let look = look_at t b hb in still_true t look.0 b b.tails look.2.2.ring.received look.2.2.ring.tails (r.truth t look.0 look.1);
     }
 
-    look_ends : (at : Spot) (a b : Receiver Item) (hand : Hand) → EndsWith at a b hand → HoldsTheLast b hand → HasLooked at.depth at.generation at.next (kinds b.received) a.tails b.tails
+    look_ends : (at : PlayPosition) (a b : Receiver Item) (spare : SpareBox) → EndsWith at a b spare → HoldsTheLast b spare → HasLooked at.depth at.generation at.next (kinds b.received) a.tails b.tails
     look_ends at a b (Husk box) ends last = inl (
       [],
       ends ∙ ap (λ n. a.tails ++ n ∷ []) (sym (length-map b.received (λ i. kind_of i.kind)))
@@ -183,9 +181,9 @@ module _ {V W : Type 0} (s : Session) (c : Core V W) (has : HasMet s c) where
       ends.0,
       ends.1 ∙ sym (append-nil a.tails),
     )
-    look_ends at a b Away ends last = absurd ends
+    look_ends at a b Lent ends last = absurd ends
 
-    pub looked_around : AllLooked (spot_of p) p.decks → HasLookedAround s (record c { process = p })
+    pub looked_around : AllLooked (position_of p) p.playbacks → HasLookedAround s (record c { process = p })
     looked_around held = record {
       runs = runs_after_a_look;
       still_held = held;
@@ -195,6 +193,6 @@ module _ {V W : Type 0} (s : Session) (c : Core V W) (has : HasMet s c) where
         look = subst (λ n. HasLooked s.depth g n (kinds b.received) look.0.tails b.tails) (playing.next ∙ ap (λ h. rolled h (entries_of p)) playing.generation)
             (subst (λ h. HasLooked s.depth h p.next (kinds b.received) look.0.tails b.tails) playing.generation
             (subst (λ k. HasLooked k p.generation p.next (kinds b.received) look.0.tails b.tails) playing.depth
-            (look_ends (spot_of p) look.0 b look.2.1.hand look.2.2.ends look.2.2.last)));
+            (look_ends (position_of p) look.0 b look.2.1.spare look.2.2.ends look.2.2.last)));
       };
     }

@@ -20,11 +20,10 @@ use Rattle.engine_model.specs.Mixed.{mixed}
 use Rattle.engine_model.specs.Order.{is_ordered_newest, may_follow}
 use Rattle.engine_model.specs.Played.{Samples, IsGenuine, block, master_form, samples_of}
 use Rattle.engine_laws.specs.PlayedLaws.{GenuinePiecesMakeTheBlock, IsOfTrack, block_bytes, is_of, is_of_track}
-use Rattle.engine_laws.specs.Standing.{no_takes}
-use Rattle.ses_io.specs.Files.{Files}
+use Rattle.engine_laws.specs.JournalInvariant.{no_takes}
 use Rattle.ses_io.specs.FixedList.{Listed}
-use Rattle.edition_log.specs.Seen.{Seen as Edition}
-use Rattle.cycle_journal.specs.Seen.{seen_entries}
+use Rattle.edition_log.specs.EditionState.{EditionState as Edition}
+use Rattle.cycle_journal.specs.JournalView.{seen_entries}
 use Rattle.ses_io.specs.Streams.{AppendsSome}
 use Rattle.cycle_journal.specs.declared.entry.Entry.{Entry as Noted}
 use Rattle.disk_ring.specs.Receiver.{Receiver}
@@ -32,15 +31,15 @@ use Rattle.piece_item.specs.declared.item.Item.{Item}
 use Rattle.piece_item.specs.Views.{item_of}
 use Rattle.process_cycle.specs.declared.cycling.CycleFault.{CycleFault}
 use Rattle.process_cycle.specs.Ends.{AreOtherEnds}
-use Rattle.process_cycle.specs.Hands.{received_items, received_kinds}
+use Rattle.process_cycle.specs.SpareBoxes.{received_items, received_kinds}
 use Rattle.process_cycle.specs.Made.{Cycles, next_block, next_entry}
-use Rattle.process_cycle.specs.Seen.{Seen as Process, entries_of}
+use Rattle.process_cycle.specs.ProcessState.{ProcessState as Process, entries_of}
 use Rattle.butler.specs.Serving.{AreGenuine}
 use Rattle.engine_core.specs.declared.engine.Core.{Core}
 use Rattle.engine_core.specs.Running.{HasMet, HasLookedAround, received, noted}
 use Rattle.engine_core.specs.Steps.{Meets, PlaysOn}
-use Rattle.engine_core.specs.Serial.{Remains, Stays, sounds_of}
-use Rattle.engine_core.specs.Written.{IsCut, IsCutOff, IsWritten, bytes_made, next_bytes}
+use Rattle.engine_core.specs.Serial.{WritesNothing}
+use Rattle.engine_core.specs.Written.{IsCut, IsCutOff, HoldsAllEntries, bytes_made, next_bytes}
 use Rattle.engine_core.proofs.CycleLemmas.{noted_now}
 use Rattle.engine_core.proofs.MeetLemmas.{item_at, mapped_at, same_received}
 
@@ -77,7 +76,7 @@ module _ {V W : Type 0} (s : Session) (sounds : Sounds) (law : GenuinePiecesMake
   of_track t r hr = let plays = c.process.ends.plays.items in let sends = c.butler.ends.sends.items in
       let d = item_at sends t (omega (arith, slice_get_within plays t r hr, has.runs.ends.plays.count)) in
       let begins = (has.knowing t d.0 r d.1 hr).begins in record {
-        named = all_named s c.edition.edits t (received_items r) (has.standing.ordered t (received_kinds r) (mapped_at received_kinds plays t r hr));
+        named = all_named s c.edition.edits t (received_items r) (has.journal_invariant.ordered t (received_kinds r) (mapped_at received_kinds plays t r hr));
         genuine = all_turned (IsGenuine s c.edition.edits samples) (map item_of r.received) (All-map (IsGenuine s c.edition.edits samples) item_of r.received
             (all_first (λ i. IsGenuine s c.edition.edits samples (item_of i)) r.received begins.0
             (subst (All (λ i. IsGenuine s c.edition.edits samples (item_of i))) (sym begins.1) (genuine t d.0 d.1))));
@@ -100,7 +99,7 @@ module _ {V W : Type 0} (s : Session) (sounds : Sounds) (law : GenuinePiecesMake
 
   -- one more block was written
   pub written_more : (held : W → List ℕ) (first : List ℕ) (looked : HasLookedAround s c) (p : Process W) → Cycles s c.edition c.process p →
-      held p.master ≡ held c.process.master ++ next_block s c.edition c.process → IsWritten held first s sounds c → IsWritten held first s sounds (record c { process = p })
+      held p.master ≡ held c.process.master ++ next_block s c.edition c.process → HoldsAllEntries held first s sounds c → HoldsAllEntries held first s sounds (record c { process = p })
   written_more held first looked p cycles wrote was = let edits = c.edition.edits in let bytes = block_bytes s edits samples in let next = next_entry s c.edition c.process in
       let head = header (master_form s) (c.process.journal.room * s.block * 2) in
       wrote ∙ ap (λ l. l ++ next_block s c.edition c.process) was ∙ ap (λ l. (first ++ bytes_made s sounds c) ++ l) block_is
@@ -111,15 +110,15 @@ module _ {V W : Type 0} (s : Session) (sounds : Sounds) (law : GenuinePiecesMake
       ∙ ap (λ (j : ℕ). header (master_form s) (j * s.block * 2) ++ flat_map bytes (noted p)) (sym (ap (λ (j : Listed Noted). j.room) cycles.noted)))
 
   pub written_on : (held : W → List ℕ) (first : List ℕ) (looked : HasLookedAround s c) (p : Process W) (answer : Result Unit CycleFault) → OnOk answer (Cycles s c.edition c.process p) →
-      OnOk answer (held p.master ≡ held c.process.master ++ next_block s c.edition c.process) → IsWritten held first s sounds c → OnOk answer (IsWritten held first s sounds (record c { process = p }))
+      OnOk answer (held p.master ≡ held c.process.master ++ next_block s c.edition c.process) → HoldsAllEntries held first s sounds c → OnOk answer (HoldsAllEntries held first s sounds (record c { process = p }))
   written_on held first looked p (Ok u) cycles wrote was = written_more held first looked p cycles wrote was
   written_on held first looked p (Err e) cycles wrote was = tt
 
 -- ---- a meeting
 
 module _ {V W : Type 0} (s : Session) (sounds : Sounds) (old new : Core V W) (others : AreOtherEnds old.process.ends old.butler.ends) (meets : Meets old new) where
-  pub written_met : (held : W → List ℕ) (first : List ℕ) → IsWritten held first s sounds old → IsWritten held first s sounds new
-  written_met held first was = subst (IsWritten held first s sounds) (sym meets.same) was
+  pub written_met : (held : W → List ℕ) (first : List ℕ) → HoldsAllEntries held first s sounds old → HoldsAllEntries held first s sounds new
+  written_met held first was = subst (HoldsAllEntries held first s sounds) (sym meets.same) was
 
   pub next_met : next_bytes s sounds new ≡ next_bytes s sounds old
   next_met = ap (next_bytes s sounds) meets.same
@@ -138,12 +137,11 @@ module _ {V W : Type 0} (s : Session) (sounds : Sounds) (old new : Core V W) (ot
 abbrev written_by : {W : Type 0} → (W → List ℕ) → List ℕ → Session → Sounds → W → Listed Noted → Edition → Type 0
 written_by held first s sounds m j e = held m ≡ first ++ (header (master_form s) (j.room * s.block * 2) ++ flat_map (block_bytes s e.edits (samples_of sounds s e.edits)) (seen_entries j.items))
 
-pub written_still : {V W : Type 0} (held : W → List ℕ) (files : V → Files) (first : List ℕ) (s : Session) (old new : Core V W) → Stays old new → Remains old new → sounds_of files new ≡ sounds_of files old →
-    IsWritten held first s (sounds_of files old) old → IsWritten held first s (sounds_of files new) new
-written_still held files first s old new stays remains sounds was = subst (λ m. written_by held first s (sounds_of files new) m new.process.journal new.edition) (sym stays.master)
-    (subst (λ j. written_by held first s (sounds_of files new) old.process.master j new.edition) (sym stays.journal)
-    (subst (λ e. written_by held first s (sounds_of files new) old.process.master old.process.journal e) (sym remains.edition)
-    (subst (λ h. written_by held first s h old.process.master old.process.journal old.edition) (sym sounds) was)))
+pub written_still : {V W : Type 0} (held : W → List ℕ) (first : List ℕ) (s : Session) (sounds : Sounds) (old new : Core V W) → WritesNothing old new → new.edition ≡ old.edition →
+    HoldsAllEntries held first s sounds old → HoldsAllEntries held first s sounds new
+written_still held first s sounds old new still edition was = subst (λ m. written_by held first s sounds m new.process.journal new.edition) (sym still.master)
+    (subst (λ j. written_by held first s sounds old.process.master j new.edition) (sym still.journal)
+    (subst (λ e. written_by held first s sounds old.process.master old.process.journal e) (sym edition) was))
 
 -- ---- a write that failed
 
@@ -152,7 +150,7 @@ cut_by first now s sounds j e = IsCutOff first now s e.edits (samples_of sounds 
 
 -- a cycle that fails leaves a front of its block after the blocks of all entries
 pub cut_on : {V W : Type 0} (held : W → List ℕ) (first : List ℕ) (s : Session) (sounds : Sounds) (old new : Core V W) (answer : Result Unit CycleFault) → PlaysOn s old answer new → new.edition ≡ old.edition →
-    IsWritten held first s sounds old → OnErr answer (AppendsSome (held old.process.master) (held new.process.master) (next_bytes s sounds old)) → OnErr answer (IsCut held first s sounds new)
+    HoldsAllEntries held first s sounds old → OnErr answer (AppendsSome (held old.process.master) (held new.process.master) (next_bytes s sounds old)) → OnErr answer (IsCut held first s sounds new)
 cut_on held first s sounds old new (Ok u) plays edition was some = tt
 cut_on held first s sounds old new (Err e) plays edition was some = let now = held new.process.master in subst (λ z. cut_by first now s sounds new.process.journal z) (sym edition)
     (subst (λ j. cut_by first now s sounds j old.edition) (sym same) (inr (next_entry s old.edition old.process, subst (λ l. AppendsSome l now (next_bytes s sounds old)) was some))) where

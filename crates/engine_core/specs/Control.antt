@@ -5,7 +5,7 @@ use Rattle.session_model.specs.declared.edit.Edit.{Edit}
 use Rattle.engine_model.specs.Edits.{playlist_edition}
 use Rattle.engine_model.specs.Editions.{edition, apply}
 use Rattle.engine_model.specs.Plain.{accepted, export_commands}
-use Rattle.edition_log.specs.Seen.{Seen as Edition, IsEditionOf}
+use Rattle.edition_log.specs.EditionState.{EditionState as Edition, IsEditionOf}
 
 -- the accepted edits after one more line
 abbrev pub edits_after : Session → List Edit → Edit → List Edit

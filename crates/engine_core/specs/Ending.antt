@@ -1,19 +1,19 @@
 -- What is so once the process has ended, while the butler takes its last turns.
 use Rattle.std.specs.Prelude.{◌≡◌, ℕ, ◌*◌, ◌^◌, ◌<◌, ◌≤◌, true, if◌then◌else◌, is_err, List, length, slice_get, Some, Result, Ok}
-use Rattle.sound_model.specs.Regions.{Sounds}
 use Rattle.session_model.specs.declared.session.Session.{Session}
-use Rattle.ses_io.specs.Files.{Files}
-use Rattle.audio_source.specs.Told.{source_sound}
-use Rattle.edition_log.specs.Seen.{IsEditionOf}
+use Rattle.ses_io.specs.Outside.{MediaOutside, OnlyReads}
+use Rattle.edition_log.specs.EditionState.{IsEditionOf}
 use Rattle.disk_ring.specs.Receiver.{Receiver}
 use Rattle.piece_item.specs.declared.item.Item.{Item}
 use Rattle.process_cycle.specs.Ends.{AreOtherEnds}
-use Rattle.butler.specs.Serving.{IsServing, AreGenuine}
+use Rattle.butler.specs.Serving.{IsServing}
 use Rattle.butler.specs.declared.turning.Turn.{Turn}
 use Rattle.butler.specs.declared.turning.Turn.TheVariants.{Moved, Idle}
 use Rattle.butler.specs.declared.faults.ButlerFault.{ButlerFault}
 use Rattle.butler.specs.Turns.{total_sent}
 use Rattle.engine_core.specs.declared.closing.Closing.{Closing}
+use Rattle.engine_core.specs.Begun.{Begun}
+use Rattle.engine_core.specs.RunInvariant.{SendsBy}
 
 -- what was received stays, and what was found; the ends only heard more
 pub record HearsMore (old new : List (Receiver Item)) : Type 0 where
@@ -22,31 +22,27 @@ pub record HearsMore (old new : List (Receiver Item)) : Type 0 where
 
 module _ {V : Type 0} where
   -- the butler serves the session, and the ends that the process left are of the same rings
-  pub record Closes (s : Session) (c : Closing V) : Type 0 where
+  pub record ClosesARun (s : Session) (c : Closing V) : Type 0 where
     pub edition_of : IsEditionOf s c.edition
     pub serving : IsServing s c.edition.edits c.butler
     pub ends : AreOtherEnds c.ends c.butler.ends
 
-  abbrev pub read_by : (V → Files) → Closing V → Sounds
-  read_by files c = source_sound (files c.butler.media) c.butler.sources
-
-  abbrev pub ItemsGenuine : (V → Files) → Session → Closing V → Type 0
-  ItemsGenuine files s c = AreGenuine (read_by files c) s c.edition.edits c.butler.ends.sends.items
+  -- **What was begun is closing.**
+  pub record IsClosing (media : MediaOutside V) (begun : Begun) (c : Closing V) : Type 0 where
+    pub closes : ClosesARun begun.session c
+    pub sends : SendsBy media begun c.edition c.butler
 
   -- what the last turns keep, whatever they answer
-  pub record Winds (tells : Type 0) (files : V → Files) (writes : V → ℕ) (old new : Closing V) : Type 0 where
-    pub closes : (s : Session) → Closes s old → Closes s new
-    pub genuine : tells → (s : Session) → Closes s old → ItemsGenuine files s old → ItemsGenuine files s new
+  pub record LastTurnsKeep (media : MediaOutside V) (old new : Closing V) : Type 0 where
     pub edition : new.edition ≡ old.edition
     pub sources : new.butler.sources ≡ old.butler.sources
     pub plays : HearsMore old.ends.plays.items new.ends.plays.items
     pub takes : length new.ends.takes.items ≡ length old.ends.takes.items
     pub to_control : new.ends.to_control ≡ old.ends.to_control
-    pub files_same : files new.butler.media ≡ files old.butler.media
-    pub writes_same : writes new.butler.media ≡ writes old.butler.media
+    pub only_reads : OnlyReads media old.butler.media new.butler.media
 
   -- how much more was sent; a ring takes no more than 2^62 items
-  pub record Mounts (old : Closing V) (answer : Result Turn ButlerFault) (new : Closing V) : Type 0 where
+  pub record SendsMore (old : Closing V) (answer : Result Turn ButlerFault) (new : Closing V) : Type 0 where
     pub many : length new.butler.ends.sends.items ≡ length old.butler.ends.sends.items
     pub small : total_sent old.butler.ends.sends.items ≤ length old.butler.ends.sends.items * 2 ^ 62
     pub grows : total_sent old.butler.ends.sends.items ≤ total_sent new.butler.ends.sends.items

@@ -1,23 +1,31 @@
 -- What a run may begin with, and what it leaves.
-use Rattle.std.specs.Prelude.{◌≡◌, ℕ, ◌≤◌, Bool, true, false, List, [], length, Option, Some, None}
+use Rattle.std.specs.Prelude.{◌≡◌, ℕ, ◌≤◌, true, false, List, [], ◌++◌, length, Option, Some, None}
 use Rattle.sound_model.specs.Regions.{Sounds}
 use Rattle.session_model.specs.declared.session.Session.{Session}
 use Rattle.session_model.specs.declared.edit.Edit.{Edit}
+use Rattle.ses_io.specs.Outside.{MediaOutside, SinkOutside}
 use Rattle.ses_io.specs.declared.world.World.{World}
 use Rattle.engine_model.specs.Fits.{is_lawful}
 use Rattle.engine_model.specs.Journal.{Entry}
 use Rattle.engine_model.specs.Plain.{accepted, export_commands, plain}
+use Rattle.engine_model.specs.Played.{Samples, master_file, samples_of}
 use Rattle.engine_model.specs.PlainSession.{is_plain}
-use Rattle.audio_source.specs.Opened.{Opened as Source, IsListed}
-use Rattle.cycle_journal.specs.Seen.{seen_entries}
-use Rattle.edition_log.specs.Seen.{Seen as Edition, IsEditionOf}
+use Rattle.audio_source.specs.Opened.{OpenedSource as Source, IsListed}
+use Rattle.audio_source.specs.Told.{source_sound}
+use Rattle.cycle_journal.specs.JournalView.{seen_entries}
+use Rattle.edition_log.specs.EditionState.{EditionState as Edition, IsEditionOf}
 use Rattle.process_cycle.specs.declared.finished.Faults.{Faults}
 use Rattle.process_cycle.specs.declared.finished.Finished.{Finished}
 use Rattle.process_cycle.specs.declared.finished.TrackRings.{TrackRings}
 use Rattle.process_cycle.specs.declared.opened.Opened.{Opened}
 use Rattle.process_cycle.specs.declared.opened.Script.{Script}
 use Rattle.engine_core.specs.declared.events.Event.{Event}
-use Rattle.engine_core.specs.Passed.{PassedOn, AllStayOpen}
+use Rattle.engine_core.specs.declared.finishing.Ended.{Ended}
+use Rattle.engine_core.specs.Begun.{Begun}
+use Rattle.engine_core.specs.Passed.{PassedOn, AllGenuine, AllStayOpen}
+use Rattle.engine_core.specs.RunInvariant.{only_noted}
+use Rattle.engine_core.specs.Serial.{IsCounted}
+use Rattle.engine_core.specs.Written.{IsCutOff}
 
 -- A run may begin with this edition of session s, these sources, and so many cycles.
 pub record MayPlay (s : Session) (e : Edition) (sources : List Source) (cycles : ℕ) : Type 0 where
@@ -31,6 +39,44 @@ pub record MayPlay (s : Session) (e : Edition) (sources : List Source) (cycles :
   pub listed : IsListed s.rate s.sources.items sources
   pub some_cycle : 1 ≤ cycles
   pub near : cycles ≤ 100000
+
+-- the position of a script, in frames
+abbrev pub from_in : Option Script → ℕ
+from_in (Some script) = script.from
+from_in None = 0
+
+-- What is left of a run that is told to play so many cycles from a position on.
+pub record IsPlayedOut (s : Session) (from cycles : ℕ) (edits : List Edit) (journal : List Entry) (rings : List TrackRings) (faults : Faults) : Type 0 where
+  -- the accepted edits, in order
+  pub edits_are : edits ≡ accepted s cycles (export_commands from)
+  -- the journal is lawful
+  pub lawful : is_lawful s edits journal ≡ true
+  -- it has an entry for each cycle, fewer only where a write of the master failed
+  pub most : length journal ≤ cycles
+  pub all : faults.master ≡ false → length journal ≡ cycles
+  -- each track's rings are ordered and true
+  pub passed : PassedOn s edits journal rings
+  -- and stay open, unless a read failed
+  pub still_open : faults.read ≡ false → AllStayOpen rings
+  -- where nothing failed the journal is the plain one
+  pub plainly : faults.read ≡ false → faults.master ≡ false → journal ≡ plain s cycles (export_commands from)
+  -- what may have failed
+  pub noted : faults ≡ only_noted faults.read faults.master
+
+-- what a run leaves of what it began with, but for the world that it didn't have
+pub record IsLeft {V W : Type 0} (media : MediaOutside V) (sink : SinkOutside W) (begun : Begun) (from cycles : ℕ) (x : Ended V W) : Type 0 where
+  pub leaves : IsPlayedOut begun.session from cycles x.edits.items (seen_entries x.journal.items) x.rings.items x.faults
+  -- each item sent is genuine
+  pub genuine : media.tells → AllGenuine begun.sounds begun.session x.edits.items x.rings.items
+  -- where no write failed the master was given its file
+  pub master : media.tells → sink.tells → x.faults.master ≡ false → sink.held x.master
+      ≡ begun.held ++ master_file begun.session x.edits.items (samples_of begun.sounds begun.session x.edits.items) cycles (seen_entries x.journal.items)
+  -- where one failed it is cut off
+  pub front : media.tells → sink.tells → x.faults.master ≡ true →
+      IsCutOff begun.held (sink.held x.master) begun.session x.edits.items (samples_of begun.sounds begun.session x.edits.items) cycles (seen_entries x.journal.items)
+  -- both counts of faults
+  pub reads : IsCounted begun.reads (media.read_faults x.media) x.faults.read
+  pub writes : IsCounted begun.writes (sink.faults x.master) x.faults.master
 
 module _ {M I C W O : Type 0} where
   -- A run may begin with what was opened. Its control is a script, and no event comes before the serial rest, so far.
@@ -49,29 +95,33 @@ module _ {M I C W O : Type 0} where
     pub control : new.control ≡ old.control
     pub out : new.out ≡ old.out
 
--- the position of a script, in frames
-abbrev pub from_in : Option Script → ℕ
-from_in (Some script) = script.from
-from_in None = 0
+  -- the sounds of what was opened
+  abbrev pub sounds_opened : MediaOutside M → Opened M I C W O → Sounds
+  sounds_opened media o = source_sound (media.files o.world.media) o.sources
 
--- nothing failed but, perhaps, a read of the media and a write of the master
-abbrev pub only_noted : Bool → Bool → Faults
-only_noted read master = record { input = false; master = master; read = read; write = false; control = false; long = false; out = false; memory = false }
+  -- by which a track has these samples
+  abbrev pub samples_opened : MediaOutside M → Opened M I C W O → Finished M I C W O → Samples
+  samples_opened media o f = samples_of (sounds_opened media o) o.edition.session f.edits.items
 
--- What a run leaves that is told to play so many cycles from a position on.
-pub record Leaves (s : Session) (from cycles : ℕ) (edits : List Edit) (journal : List Entry) (rings : List TrackRings) (faults : Faults) : Type 0 where
-  -- the accepted edits, in order
-  pub edits_are : edits ≡ accepted s cycles (export_commands from)
-  -- the journal is lawful
-  pub lawful : is_lawful s edits journal ≡ true
-  -- it has an entry for each cycle, fewer only where a write of the master failed
-  pub most : length journal ≤ cycles
-  pub all : faults.master ≡ false → length journal ≡ cycles
-  -- each track's rings are ordered and true
-  pub passed : PassedOn s edits journal rings
-  -- and stay open, unless a read failed
-  pub still_open : faults.read ≡ false → AllStayOpen rings
-  -- where nothing failed the journal is the plain one
-  pub plainly : faults.read ≡ false → faults.master ≡ false → journal ≡ plain s cycles (export_commands from)
-  -- what may have failed
-  pub noted : faults ≡ only_noted faults.read faults.master
+  -- edits, journal, rings and what may have failed
+  abbrev pub LeavesARun : Opened M I C W O → Finished M I C W O → Type 0
+  LeavesARun o f = IsPlayedOut o.edition.session (from_in o.script) o.cycles f.edits.items (journal_of f) f.rings.items f.faults
+
+  -- each item sent is genuine, by the sounds of what was opened
+  abbrev pub SendsGenuine : MediaOutside M → Opened M I C W O → Finished M I C W O → Type 0
+  SendsGenuine media o f = AllGenuine (sounds_opened media o) o.edition.session f.edits.items f.rings.items
+
+  -- where no write failed the master holds what it held, and then its file
+  abbrev pub GetsTheMaster : MediaOutside M → SinkOutside W → Opened M I C W O → Finished M I C W O → Type 0
+  GetsTheMaster media sink o f = f.faults.master ≡ false →
+      sink.held f.world.master ≡ sink.held o.world.master ++ master_file o.edition.session f.edits.items (samples_opened media o f) o.cycles (journal_of f)
+
+  -- where one failed it is cut off
+  abbrev pub GetsAFront : MediaOutside M → SinkOutside W → Opened M I C W O → Finished M I C W O → Type 0
+  GetsAFront media sink o f = f.faults.master ≡ true →
+      IsCutOff (sink.held o.world.master) (sink.held f.world.master) o.edition.session f.edits.items (samples_opened media o f) o.cycles (journal_of f)
+
+  -- both counts of faults, and whether they rose
+  pub record AreCounted (media : MediaOutside M) (sink : SinkOutside W) (o : Opened M I C W O) (f : Finished M I C W O) : Type 0 where
+    pub reads : IsCounted (media.read_faults o.world.media) (media.read_faults f.world.media) f.faults.read
+    pub writes : IsCounted (sink.faults o.world.master) (sink.faults f.world.master) f.faults.master

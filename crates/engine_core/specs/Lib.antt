@@ -1,12 +1,13 @@
 -- What the engine has on one thread, and what its calls do.
 pub mod Answers
+pub mod Begun
 pub mod Rings
 pub mod Running
 pub mod Steps
 pub mod Plainly
 pub mod Written
 pub mod Serial
-pub mod Course
+pub mod RunInvariant
 pub mod Ending
 pub mod Control
 pub mod Starting

@@ -1,5 +1,5 @@
 -- When the engine runs plainly: no read and no write has failed, and each entry is the plain one.
-use Rattle.std.specs.Prelude.{◌≡◌, ◌⊎◌, ℕ, true, false, List, [], ◌∷◌, ◌++◌, length, reverse, slice_get, Some, None}
+use Rattle.std.specs.Prelude.{◌≡◌, ◌⊎◌, ◌<◌, ℕ, true, false, List, [], ◌∷◌, ◌++◌, length, reverse, slice_get, Some, None, Result, IfOk, OnOk}
 use mathlib.Core.List.{IsPrefix}
 use Rattle.session_model.specs.declared.session.Session.{Session}
 use Rattle.session_model.specs.declared.edit.Edit.{Edit}
@@ -13,10 +13,12 @@ use Rattle.engine_laws.specs.SerialLaws.{AreFew, IsReady, none_is_held}
 use Rattle.disk_ring.specs.Sender.{Sender}
 use Rattle.disk_ring.specs.Receiver.{Receiver}
 use Rattle.piece_item.specs.declared.item.Item.{Item}
-use Rattle.process_cycle.specs.Hands.{received_kinds}
-use Rattle.process_cycle.specs.Seen.{entries_of}
+use Rattle.process_cycle.specs.declared.cycling.CycleFault.{CycleFault}
+use Rattle.process_cycle.specs.SpareBoxes.{received_kinds}
+use Rattle.process_cycle.specs.ProcessState.{entries_of}
 use Rattle.butler.specs.declared.turning.Turn.{Turn}
 use Rattle.butler.specs.declared.turning.Turn.TheVariants.{Idle}
+use Rattle.butler.specs.declared.faults.ButlerFault.{ButlerFault}
 use Rattle.butler.specs.Sends.{kinds, acks_of}
 use Rattle.engine_core.specs.declared.engine.Core.{Core}
 use Rattle.engine_core.specs.Running.{Runs}
@@ -99,3 +101,30 @@ pub record LooksPlainly {V W : Type 0} (s : Session) (old new : Core V W) : Type
 abbrev pub AreReady : {V W : Type 0} → Session → Core V W → Type 0
 AreReady s c = (t : ℕ) (r : Receiver Item) → slice_get c.process.ends.plays.items t ≡ Some r →
     IsReady s c.edition.edits t (generation_now c) (next_now c) (received_kinds r)
+
+-- the butler has served a plain run: nothing is left to do before the cycle
+pub record HasServedAll {V W : Type 0} (s : Session) (c : Core V W) : Type 0 where
+  pub plain : RunsPlainly s c
+  pub taken : HasTaken c
+  pub idle : IsIdle s c
+
+module _ {V W : Type 0} (s : Session) where
+  -- a turn of a plain run leaves a plain one, unless it fails
+  abbrev pub TurnsOn : Core V W → Result Turn ButlerFault → Core V W → Type 0
+  TurnsOn old answer new = RunsPlainly s old → HasReceived s old → IfOk answer (λ a. TurnsPlainly s a new)
+
+  -- a look after such a turn does so
+  abbrev pub LooksOn : Core V W → Core V W → Type 0
+  LooksOn old new = RunsPlainly s old → HasTaken old → LooksPlainly s old new
+
+  -- turns and looks do, unless one fails
+  abbrev pub ServesOn : Core V W → Result Unit ButlerFault → Core V W → Type 0
+  ServesOn old answer new = RunsPlainly s old → HasReceived s old → OnOk answer (HasServedAll s new)
+
+  -- then the ends meet, and each track is ready for the next cycle
+  abbrev pub MakesReady : Core V W → Core V W → Type 0
+  MakesReady old new = RunsPlainly s old → HasTaken old → IsIdle s old → next_now old < old.butler.cycles → AreReady s new
+
+  -- which leaves a plain run too, unless it fails
+  abbrev pub CyclesOn : Core V W → Result Unit CycleFault → Core V W → Type 0
+  CyclesOn old answer new = RunsPlainly s old → HasTaken old → IsIdle s old → OnOk answer (RunsPlainly s new × HasReceived s new)

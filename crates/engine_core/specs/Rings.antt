@@ -8,6 +8,7 @@ use Rattle.process_cycle.specs.declared.finished.TrackRings.{TrackRings}
 use Rattle.piece_item.specs.declared.item.Item.{Item}
 use Rattle.piece_item.specs.declared.take_block.TakeBlock.{TakeBlock}
 use Rattle.process_cycle.specs.Ends.{block_of}
+use Rattle.engine_core.specs.declared.joining.TrackEnds.{TrackEnds}
 
 -- the two ends of a new ring of so many boxes of so many samples
 pub record IsRing {T : Type 0} (depth samples : ℕ) (a : Sender T) (b : Receiver T) : Type 0 where
@@ -19,10 +20,18 @@ abbrev pub AreRings : {T : Type 0} → Session → ℕ → List (Sender T) → L
 AreRings {T} s many a b = (length a ≡ many) × (length b ≡ many)
     × ((t : ℕ) (x : Sender T) (y : Receiver T) → t < many → IsRing s.depth (block_of s t) (slice_index_or a t x) (slice_index_or b t y))
 
+-- of each track of a session one
+abbrev pub EachHasARing : {T : Type 0} → Session → List (Sender T) → List (Receiver T) → Type 0
+EachHasARing s a b = AreRings s (length s.tracks.items) a b
+
 -- of each track the rings that its ends become
 abbrev pub joined_all : List (Sender Item) → List (Receiver Item) → List (Sender TakeBlock) → List (Receiver TakeBlock) → List TrackRings
 joined_all (a ∷ xs) (b ∷ ys) (c ∷ zs) (d ∷ ws) = record { plays = joined_of a b; takes = joined_of c d } ∷ joined_all xs ys zs ws
 joined_all _ _ _ _ = []
+
+-- and those of all of them
+abbrev pub joined_ends : TrackEnds → List TrackRings
+joined_ends ends = joined_all ends.sends.items ends.plays.items ends.captures.items ends.flushes.items
 
 -- what was received of each ring are the first of the items sent
 abbrev pub AllWhole : List TrackRings → Type 0

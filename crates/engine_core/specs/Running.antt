@@ -6,18 +6,18 @@ use Rattle.session_model.specs.declared.edit.Edit.{Edit}
 use Rattle.engine_model.specs.Edits.{generation}
 use Rattle.engine_model.specs.Items.{Kind}
 use Rattle.engine_model.specs.Journal.{Entry, rolled}
-use Rattle.engine_laws.specs.Standing.{Standing, Receives}
+use Rattle.engine_laws.specs.JournalInvariant.{JournalInvariant, Receives}
 use Rattle.engine_laws.specs.TruthLaws.{TruthStands, HasLooked}
-use Rattle.edition_log.specs.Seen.{IsEditionOf}
+use Rattle.edition_log.specs.EditionState.{IsEditionOf}
 use Rattle.disk_ring.specs.Sender.{Sender}
 use Rattle.disk_ring.specs.Receiver.{Receiver}
 use Rattle.piece_item.specs.declared.item.Item.{Item}
-use Rattle.cycle_journal.specs.Seen.{seen_entries}
-use Rattle.process_cycle.specs.Hands.{received_kinds}
+use Rattle.cycle_journal.specs.JournalView.{seen_entries}
+use Rattle.process_cycle.specs.SpareBoxes.{received_kinds}
 use Rattle.process_cycle.specs.Ends.{AreOtherEnds}
 use Rattle.process_cycle.specs.Cycles.{AllLooked}
-use Rattle.process_cycle.specs.Playing.{IsPlaying, spot_of}
-use Rattle.process_cycle.specs.Seen.{Seen as Process, entries_of}
+use Rattle.process_cycle.specs.Playing.{IsPlaying, position_of}
+use Rattle.process_cycle.specs.ProcessState.{ProcessState as Process, entries_of}
 use Rattle.butler.specs.Sends.{kinds}
 use Rattle.butler.specs.Serving.{IsServing}
 use Rattle.engine_core.specs.declared.engine.Core.{Core}
@@ -50,7 +50,7 @@ pub record Runs {V W : Type 0} (s : Session) (c : Core V W) : Type 0 where
   -- what had been received when the ends last met
   pub before : List (List Kind)
   -- the journal stands by that, and since then only more was received
-  pub standing : Standing s c.edition.edits before (entries_of c.process)
+  pub journal_invariant : JournalInvariant s c.edition.edits before (entries_of c.process)
   pub receives : Receives before (received c.process)
   -- and it is true of each track
   pub truth : IsTrueOfAll c.edition.edits s.depth c.process.ends.plays.items (noted c.process)
@@ -70,7 +70,7 @@ pub record HasMet {V W : Type 0} (s : Session) (c : Core V W) : Type 0 where
   pub knowing : (t : ℕ) (d : Sender Item) (r : Receiver Item) → slice_get c.butler.ends.sends.items t ≡ Some d → slice_get c.process.ends.plays.items t ≡ Some r → KnowAll d r
   pub acknowledged : KnowAll c.process.ends.to_butler c.butler.ends.acks
   -- the journal stands by all that was received
-  pub standing : Standing s c.edition.edits (received c.process) (entries_of c.process)
+  pub journal_invariant : JournalInvariant s c.edition.edits (received c.process) (entries_of c.process)
 
 -- a track was looked at where block n of generation g is next, after these tails, by which the journal is true of it
 pub record WasLookedAt (edits : List Edit) (depth g n t : ℕ) (r : Receiver Item) (journal : List Entry) : Type 0 where
@@ -82,6 +82,6 @@ pub record WasLookedAt (edits : List Edit) (depth g n t : ℕ) (r : Receiver Ite
 pub record HasLookedAround {V W : Type 0} (s : Session) (c : Core V W) : Type 0 where
   pub runs : Runs s c
   -- what is held is still held
-  pub still_held : AllLooked (spot_of c.process) c.process.decks
+  pub still_held : AllLooked (position_of c.process) c.process.playbacks
   pub looked : (t : ℕ) (r : Receiver Item) → slice_get c.process.ends.plays.items t ≡ Some r → let g = generation c.edition.edits (length c.edition.edits) in
       WasLookedAt c.edition.edits s.depth g (rolled g (reverse (noted c.process))) t r (noted c.process)

@@ -3,15 +3,18 @@ use Rattle.std.specs.Prelude.{◌≡◌, ℕ, ◌≤◌, true, false, List, [], 
 use Rattle.session_model.specs.declared.session.Session.{Session}
 use Rattle.engine_model.specs.Edits.{playlist_edition}
 use Rattle.engine_model.specs.PlainSession.{is_plain}
-use Rattle.audio_source.specs.Opened.{Opened, IsListed}
-use Rattle.edition_log.specs.Seen.{Seen as Edition, IsEditionOf}
+use Rattle.audio_source.specs.Opened.{OpenedSource, IsListed}
+use Rattle.audio_source.specs.Told.{source_sound}
+use Rattle.ses_io.specs.Outside.{MediaOutside, SinkOutside}
+use Rattle.edition_log.specs.EditionState.{EditionState as Edition, IsEditionOf}
 use Rattle.disk_ring.specs.Sender.{Sender}
 use Rattle.piece_item.specs.declared.item.Item.{Item}
 use Rattle.process_cycle.specs.declared.finished.Faults.{Faults}
 use Rattle.engine_core.specs.declared.serial.Run.{Run}
-use Rattle.engine_core.specs.declared.wiring.Wiring.{Wiring}
-use Rattle.engine_core.specs.Rings.{IsRing, AreRings}
-use Rattle.engine_core.specs.Running.{Runs}
+use Rattle.engine_core.specs.declared.starting.Started.{Started}
+use Rattle.engine_core.specs.declared.run_ends.RunEnds.{RunEnds}
+use Rattle.engine_core.specs.Begun.{Begun}
+use Rattle.engine_core.specs.Rings.{IsRing, EachHasARing}
 use Rattle.engine_core.specs.Plainly.{RunsPlainly, HasReceived}
 use Rattle.engine_core.specs.Serial.{AreOpen}
 
@@ -21,14 +24,21 @@ no_faults = record { input = false; master = false; read = false; write = false;
 
 -- the ends are those of new rings: of each track one for its items and one for the blocks of its takes, and two of
 -- acknowledgements
-pub record IsWired (s : Session) (w : Wiring) : Type 0 where
-  pub items : AreRings s (length s.tracks.items) w.butler.sends.items w.process.plays.items
-  pub takes : AreRings s (length s.tracks.items) w.process.takes.items w.butler.takes.items
+pub record AreNewRunEnds (s : Session) (w : RunEnds) : Type 0 where
+  pub items : EachHasARing s w.butler.sends.items w.process.plays.items
+  pub takes : EachHasARing s w.process.takes.items w.butler.takes.items
   pub to_butler : IsRing s.depth 0 w.process.to_butler w.butler.acks
   pub to_control : IsRing s.depth 0 w.process.to_control w.acks
 
+-- What was begun is what media, sources and master tell.
+pub record IsTold {V W : Type 0} (outside : MediaOutside V) (sink : SinkOutside W) (begun : Begun) (media : V) (sources : List OpenedSource) (master : W) : Type 0 where
+  pub sounds : begun.sounds ≡ source_sound (outside.files media) sources
+  pub held : begun.held ≡ sink.held master
+  pub reads : begun.reads ≡ outside.read_faults media
+  pub writes : begun.writes ≡ sink.faults master
+
 -- A run may start in this edition of a session.
-pub record MayStart (s : Session) (e : Edition) (sources : List Opened) (cycles : ℕ) : Type 0 where
+pub record MayStart (s : Session) (e : Edition) (sources : List OpenedSource) (cycles : ℕ) : Type 0 where
   -- the session is of those that are played so far
   pub plain : is_plain s ≡ true
   pub edition_of : IsEditionOf s e
@@ -42,7 +52,7 @@ pub record MayStart (s : Session) (e : Edition) (sources : List Opened) (cycles 
   pub near : cycles ≤ 100000
 
 -- A run has started, and nothing has happened yet.
-pub record HasStarted {V W : Type 0} (s : Session) (e : Edition) (sources : List Opened) (cycles : ℕ) (media : V) (master : W) (r : Run V W) : Type 0 where
+pub record HasStarted {V W : Type 0} (s : Session) (e : Edition) (sources : List OpenedSource) (cycles : ℕ) (media : V) (master : W) (r : Run V W) : Type 0 where
   pub plain : RunsPlainly s r.core
   pub all_received : HasReceived s r.core
   pub nothing_sent : (t : ℕ) (d : Sender Item) → slice_get r.core.butler.ends.sends.items t ≡ Some d → d.sent ≡ []
@@ -55,3 +65,7 @@ pub record HasStarted {V W : Type 0} (s : Session) (e : Edition) (sources : List
   pub cycles_is : r.core.butler.cycles ≡ cycles
   pub journal_is : r.core.process.journal ≡ record { items = []; room = cycles }
   pub faults_is : r.faults ≡ no_faults
+
+-- What a start leaves is such a run.
+abbrev pub StartsARun : {V W : Type 0} → Session → Edition → List OpenedSource → ℕ → V → W → Started V W → Type 0
+StartsARun s e sources cycles media master x = HasStarted s e sources cycles media master x.run

@@ -1,9 +1,7 @@
 //! The last turns of the butler, once the process has ended.
-ghost use Rattle.std.specs.Prelude.{OnOk};
-ghost use Rattle.ses_io.specs.Faults.{HasCause};
-ghost use Rattle.session_model.specs.declared.session.Session.{Session as Opening};
-ghost use Rattle.engine_core.specs.Serial.{AreOpen};
-ghost use Rattle.engine_core.specs.Ending.{Closes, Winds, Mounts};
+ghost use Rattle.engine_core.specs.Begun.{Begun};
+ghost use Rattle.engine_core.specs.Serial.{CountsReads, StayOpen};
+ghost use Rattle.engine_core.specs.Ending.{IsClosing, LastTurnsKeep, SendsMore};
 
 use crate::answers::{is_idle, with_fault};
 use butler::{Butler, ButlerFault, Turn};
@@ -22,11 +20,13 @@ pub(crate) struct Closing<M> {
 impl<M: Media> Closing<M> {
     /// A meeting of the ends, and a turn of one item.
     pub(crate) fn turn(self) -> (Closing<M>, Result<Turn, ButlerFault>)
-        requires { (s : Opening) × Closes s self }
-        ensures winds { Winds M.tells M.files M.write_faults self result.0 }
-        ensures still_open { AreOpen self.butler.ends.sends.items → OnOk result.1 (AreOpen result.0.butler.ends.sends.items) }
-        ensures mounts { Mounts self result.1 result.0 }
-        ensures cause { HasCause (M.read_faults self.butler.media) (M.read_faults result.0.butler.media) result.1 }
+        ghost begun: { Begun }
+        requires { IsClosing M.outside begun self }
+        ensures closing { IsClosing M.outside begun result.0 }
+        ensures last_turns { LastTurnsKeep M.outside self result.0 }
+        ensures still_open { StayOpen self.butler result.1 result.0.butler }
+        ensures sends_more { SendsMore self result.1 result.0 }
+        ensures cause { CountsReads M.outside self.butler.media result.1 result.0.butler.media }
     {
         let Closing {
             edition,
@@ -47,10 +47,12 @@ impl<M: Media> Closing<M> {
 
     /// Turns until one is Idle. A turn that failed isn't.
     pub(crate) fn drain(self) -> (Closing<M>, Result<(), ButlerFault>)
-        requires { (s : Opening) × Closes s self }
-        ensures winds { Winds M.tells M.files M.write_faults self result.0 }
-        ensures still_open { AreOpen self.butler.ends.sends.items → OnOk result.1 (AreOpen result.0.butler.ends.sends.items) }
-        ensures cause { HasCause (M.read_faults self.butler.media) (M.read_faults result.0.butler.media) result.1 }
+        ghost begun: { Begun }
+        requires { IsClosing M.outside begun self }
+        ensures closing { IsClosing M.outside begun result.0 }
+        ensures last_turns { LastTurnsKeep M.outside self result.0 }
+        ensures still_open { StayOpen self.butler result.1 result.0.butler }
+        ensures cause { CountsReads M.outside self.butler.media result.1 result.0.butler.media }
     {
         let mut closing = self;
         let mut answer = Ok(());

@@ -1,7 +1,7 @@
 //! The control of an export: it locates, and rolls.
 ghost use Rattle.std.specs.Prelude.{◌≡◌, [], IsTrue};
-ghost use Rattle.session_model.specs.declared.session.Session.{Session as Opening};
-ghost use Rattle.edition_log.specs.Seen.{IsEditionOf, IsOpen};
+ghost use Rattle.engine_core.specs.Begun.{Begun};
+ghost use Rattle.edition_log.specs.EditionState.{IsEditionOf, IsOpen};
 ghost use Rattle.edition_log.specs.Steps.{is_built};
 ghost use Rattle.engine_core.specs.Control.{Obeys, IsControlled};
 
@@ -11,9 +11,11 @@ use session_model::Edit;
 
 /// One control line: its edit is accepted, or refused and nothing changes.
 pub(crate) fn obey(edition: &mut Edition, edit: &Edit)
+    ghost begun: { Begun }
+    requires of { IsEditionOf begun.session edition.old }
     requires built { IsTrue (is_built edit.now) }
     requires open { IsOpen edition.old }
-    ensures obeys { (s : Opening) → IsEditionOf s edition.old → Obeys s edition.old edit.now edition.new }
+    ensures obeys { Obeys begun.session edition.old edit.now edition.new }
     ensures still_open { IsOpen edition.new }
     ensures recording { edition.new.transport.recording ≡ edition.old.transport.recording }
 {
@@ -22,9 +24,11 @@ pub(crate) fn obey(edition: &mut Edition, edit: &Edit)
 
 /// The edition after the lines of a script.
 pub(crate) fn controlled(edition: Edition, script: Script) -> Edition
+    ghost begun: { Begun }
+    requires of { IsEditionOf begun.session edition }
     requires none { edition.edits ≡ [] }
     requires open { IsOpen edition }
-    ensures controlled { (s : Opening) → IsEditionOf s edition → IsControlled s script.from result }
+    ensures controlled { IsControlled begun.session script.from result }
     ensures still_open { IsOpen result }
     ensures recording { result.transport.recording ≡ edition.transport.recording }
 {

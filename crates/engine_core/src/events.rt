@@ -1,12 +1,8 @@
 //! A run on one thread: control's lines, then cycles, each once the butler has nothing left to send.
-ghost use Rattle.std.specs.Prelude.{◌≡◌, ◌++◌, true, false, IfOk, IfErr};
-ghost use Rattle.engine_model.specs.Played.{master_file, samples_of};
-ghost use Rattle.audio_source.specs.Told.{source_sound};
+ghost use Rattle.std.specs.Prelude.{◌≡◌, IfOk, IfErr};
+ghost use Rattle.ses_io.specs.Outside.{OnlyReads};
 ghost use Rattle.disk_ring.specs.Rings.{Whole};
-ghost use Rattle.engine_core.specs.Serial.{IsCounted};
-ghost use Rattle.engine_core.specs.Written.{IsCutOff};
-ghost use Rattle.engine_core.specs.Passed.{AllGenuine};
-ghost use Rattle.engine_core.specs.Events.{MayRun, from_in, journal_of, KeepsTheRest, Leaves};
+ghost use Rattle.engine_core.specs.Events.{MayRun, LeavesARun, SendsGenuine, GetsTheMaster, GetsAFront, AreCounted, KeepsTheRest};
 
 use crate::finishing::Ended;
 use crate::playing::play_script;
@@ -39,23 +35,15 @@ pub fn run_events<M: Media, I: Source, C: Source, W: Sink, O: Sink>(
     events: &[Event],
 ) -> Result<Finished<M, I, C, W, O>, World<M, I, C, W, O>>
     requires { MayRun o events.now }
-    ensures leaves { IfOk result (λ f. Leaves o.edition.session (from_in o.script) o.cycles
-        f.edits.items (journal_of f) f.rings.items f.faults) }
-    ensures genuine { M.tells → IfOk result (λ f. AllGenuine (source_sound (M.files o.world.media) o.sources)
-        o.edition.session f.edits.items f.rings.items) }
-    ensures master { M.tells → W.tells → IfOk result (λ f. f.faults.master ≡ false
-        → W.held f.world.master ≡ W.held o.world.master ++ master_file o.edition.session f.edits.items
-        (samples_of (source_sound (M.files o.world.media) o.sources) o.edition.session f.edits.items)
-        o.cycles (journal_of f)) }
-    ensures front { M.tells → W.tells → IfOk result (λ f. f.faults.master ≡ true
-        → IsCutOff (W.held o.world.master) (W.held f.world.master) o.edition.session f.edits.items
-        (samples_of (source_sound (M.files o.world.media) o.sources) o.edition.session f.edits.items)
-        o.cycles (journal_of f)) }
+    ensures leaves { IfOk result (LeavesARun o) }
+    ensures genuine { M.outside.tells → IfOk result (SendsGenuine M.outside o) }
+    ensures master { M.outside.tells → W.outside.tells
+        → IfOk result (GetsTheMaster M.outside W.outside o) }
+    ensures front { M.outside.tells → W.outside.tells
+        → IfOk result (GetsAFront M.outside W.outside o) }
     ensures acks { IfOk result (λ f. Whole f.acks) }
-    ensures reads { IfOk result (λ f. IsCounted (M.read_faults o.world.media) (M.read_faults f.world.media) f.faults.read) }
-    ensures writes { IfOk result (λ f. IsCounted (W.faults o.world.master) (W.faults f.world.master) f.faults.master) }
-    ensures files { IfOk result (λ f. M.files f.world.media ≡ M.files o.world.media) }
-    ensures other_count { IfOk result (λ f. M.write_faults f.world.media ≡ M.write_faults o.world.media) }
+    ensures counts { IfOk result (AreCounted M.outside W.outside o) }
+    ensures only_reads { IfOk result (λ f. OnlyReads M.outside o.world.media f.world.media) }
     ensures rest { IfOk result (λ f. KeepsTheRest o.world f.world) }
     ensures back { IfErr result (λ w. w ≡ o.world) }
 {
@@ -94,12 +82,20 @@ fn finished<M, I, C, W, O>(
     control: C,
     out: O,
 ) -> Finished<M, I, C, W, O>
-    ensures world { result.world ≡ record { media = ended.media; input = input; control = control; master = ended.master; out = out } }
-    ensures journal { result.journal ≡ ended.journal }
-    ensures edits { result.edits ≡ ended.edits }
-    ensures rings { result.rings ≡ ended.rings }
-    ensures acks { result.acks ≡ ended.acks }
-    ensures faults { result.faults ≡ ended.faults }
+    ensures { result ≡ record {
+      world = record {
+        media = ended.media;
+        input = input;
+        control = control;
+        master = ended.master;
+        out = out;
+      };
+      journal = ended.journal;
+      edits = ended.edits;
+      rings = ended.rings;
+      acks = ended.acks;
+      faults = ended.faults;
+    } }
 {
     let Ended {
         media,

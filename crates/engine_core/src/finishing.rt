@@ -1,19 +1,15 @@
 //! How a run ends: the rings are closed, the butler takes its last turns, and the rings are joined again.
-ghost use Rattle.std.specs.Prelude.{◌≡◌, ◌≤◌, ℕ, [], length, false};
-ghost use Rattle.session_model.specs.declared.session.Session.{Session as Opening};
-ghost use Rattle.cycle_journal.specs.Seen.{seen_entries};
-ghost use Rattle.engine_core.specs.Running.{Runs};
-ghost use Rattle.engine_core.specs.Serial.{AreOpen, IsCounted};
-ghost use Rattle.engine_core.specs.Ending.{Closes, ItemsGenuine, read_by};
-ghost use Rattle.engine_core.specs.Finishing.{IsTrueAtTheEnd, Shuts, Lasts};
-ghost use Rattle.engine_core.specs.Passed.{PassedOn, AllGenuine, AllStayOpen};
+ghost use Rattle.std.specs.Prelude.{◌≡◌};
+ghost use Rattle.engine_core.specs.Begun.{Begun};
+ghost use Rattle.engine_core.specs.RunInvariant.{IsUnderWay};
+ghost use Rattle.engine_core.specs.Finishing.{IsClosed, CloseLeaves, HasLists, PartGivesBack, PartJoins};
 
 use crate::answers::failed;
 use crate::closing::Closing;
 use crate::engine::Core;
-use crate::joining::{Loose, join_all};
+use crate::joining::{TrackEnds, join_all};
+use crate::lists::{RunLists, copy_edits};
 use crate::serial::Run;
-use crate::shelves::{Shelves, copy_edits};
 use butler::{Butler, ButlerParts};
 use cycle_journal::Journal;
 use disk_ring::{Ring, RingIn, RingOut, rejoin};
@@ -44,12 +40,12 @@ pub(crate) struct Ended<M, W> {
     pub(crate) faults: Faults,
 }
 
-/// Closes the rings of takes and acknowledgements, and lets the butler make turns until one is Idle.
+/// ClosesARun the rings of takes and acknowledgements, and lets the butler make turns until one is Idle.
 pub(crate) fn close<M: Media, W: Sink>(run: Run<M, W>) -> Closed<M, W>
-    requires { (s : Opening) × Runs s run.core }
-    ensures shuts { Shuts M.tells M.files M.write_faults run result }
-    ensures reads { (before : ℕ) → IsCounted before (M.read_faults run.core.butler.media) run.faults.read
-        → IsCounted before (M.read_faults result.closing.butler.media) result.faults.read }
+    ghost begun: { Begun }
+    requires { IsUnderWay M.outside W.outside begun run }
+    ensures closed { IsClosed M.outside begun result }
+    ensures leaves { CloseLeaves M.outside run result }
 {
     let Run { core, mut faults } = run;
     let Core {
@@ -80,9 +76,9 @@ pub(crate) fn close<M: Media, W: Sink>(run: Run<M, W>) -> Closed<M, W>
 }
 
 // The media of a butler, the ends of the rings of all tracks, and the one that acknowledged to control.
-fn loosened<M: Media>(butler: Butler<M>, ends: ProcessEnds) -> (M, Loose, RingIn<Ack>)
+fn taken_apart<M: Media>(butler: Butler<M>, ends: ProcessEnds) -> (M, TrackEnds, RingIn<Ack>)
     ensures media { result.0 ≡ butler.media }
-    ensures loose { result.1 ≡ record {
+    ensures track_ends { result.1 ≡ record {
       sends = butler.ends.sends;
       plays = ends.plays;
       captures = ends.takes;
@@ -105,32 +101,22 @@ fn loosened<M: Media>(butler: Butler<M>, ends: ProcessEnds) -> (M, Loose, RingIn
         to_butler: _,
         to_control,
     } = ends;
-    let loose = Loose {
+    let track_ends = TrackEnds {
         sends,
         plays,
         captures,
         flushes,
     };
-    (media, loose, to_control)
+    (media, track_ends, to_control)
 }
 
 /// Joins the rings again, and gives everything back.
-pub(crate) fn part<M: Media, W: Sink>(closed: Closed<M, W>, shelves: Shelves) -> Ended<M, W>
-    requires closes { (s : Opening) × Closes s closed.closing }
-    requires control { closed.acks.ring ≡ closed.closing.ends.to_control.ring }
-    requires tracks { length closed.closing.ends.takes.items ≡ length closed.closing.butler.ends.sends.items }
-    requires rings { shelves.rings.items ≡ [] }
-    requires backwards { shelves.backwards.items ≡ [] }
-    requires rings_room { length closed.closing.butler.ends.sends.items ≤ shelves.rings.room }
-    requires backwards_room { length closed.closing.butler.ends.sends.items ≤ shelves.backwards.room }
-    requires edits { shelves.edits.items ≡ [] }
-    requires edits_room { 10000 ≤ shelves.edits.room }
-    ensures lasts { Lasts closed result }
-    ensures passed { (s : Opening) → Closes s closed.closing → IsTrueAtTheEnd s closed
-        → PassedOn s closed.closing.edition.edits (seen_entries closed.journal.items) result.rings.items }
-    ensures genuine { (s : Opening) → Closes s closed.closing → ItemsGenuine M.files s closed.closing
-        → AllGenuine (read_by M.files closed.closing) s closed.closing.edition.edits result.rings.items }
-    ensures still_open { AreOpen closed.closing.butler.ends.sends.items → AllStayOpen result.rings.items }
+pub(crate) fn part<M: Media, W: Sink>(closed: Closed<M, W>, lists: RunLists) -> Ended<M, W>
+    ghost begun: { Begun }
+    requires closed { IsClosed M.outside begun closed }
+    requires lists { HasLists closed lists }
+    ensures gives_back { PartGivesBack closed result }
+    ensures joins { PartJoins M.outside begun closed result }
 {
     let Closed {
         closing,
@@ -144,14 +130,13 @@ pub(crate) fn part<M: Media, W: Sink>(closed: Closed<M, W>, shelves: Shelves) ->
         butler,
         ends,
     } = closing;
-    let Shelves {
+    let RunLists {
         mut rings,
-        mut backwards,
         mut edits,
-    } = shelves;
+    } = lists;
     copy_edits(&mut edits, &edition);
-    let (media, loose, to_control) = loosened(butler, ends);
-    join_all(&mut rings, &mut backwards, loose);
+    let (media, track_ends, to_control) = taken_apart(butler, ends);
+    join_all(&mut rings, track_ends);
     let acks = rejoin(to_control, acks);
     Ended {
         media,

@@ -1,86 +1,67 @@
-//! The empty boxes that rings begin with, and rings of them.
-ghost use Rattle.std.specs.Prelude.{◌≡◌, ◌<◌, length, IfOk};
+//! The husks that a ring begins with: its empty boxes, which travel back to be filled again.
+ghost use Rattle.std.specs.Prelude.{◌≡◌, ◌<◌, ℕ, length, IfOk};
 ghost use Rattle.disk_ring.specs.Rings.{AllOfRoom};
 ghost use Rattle.engine_core.specs.Rings.{IsRing};
 
-use disk_ring::{RingIn, RingOut, ring};
+use disk_ring::{RingIn, RingOut, Roomy, ring};
 use piece_item::{Ack, Item, TakeBlock};
 use ses_io::NoMemory;
 use std::alloc::Global;
 
-// So many empty boxes for items of so many samples.
-fn items(alloc: Global, count: u32, samples: u32) -> Result<Vec<Box<Item>>, NoMemory>
+/// What travels in the boxes of a ring.
+pub(crate) trait Husk: Roomy + Drop + Sized {
+    ghost room_for: { ℕ → ℕ };
+
+    /// An empty box with so many samples, where it has any.
+    fn husk(alloc: Global, samples: u32) -> Result<Box<Self>, NoMemory>
+        ensures { IfOk result (λ b. Self.room_of b.value ≡ Self.room_for samples) };
+}
+
+impl Husk for Item {
+    ghost room_for = { λ samples. samples };
+
+    fn husk(alloc: Global, samples: u32) -> Result<Box<Item>, NoMemory> {
+        Item::blank(alloc, samples)
+    }
+}
+
+impl Husk for TakeBlock {
+    ghost room_for = { λ samples. samples };
+
+    fn husk(alloc: Global, samples: u32) -> Result<Box<TakeBlock>, NoMemory> {
+        TakeBlock::blank(alloc, samples)
+    }
+}
+
+impl Husk for Ack {
+    ghost room_for = { λ samples. 0 };
+
+    fn husk(alloc: Global, _samples: u32) -> Result<Box<Ack>, NoMemory> {
+        Ack::blank(alloc)
+    }
+}
+
+// So many of them.
+fn husks<T: Husk>(alloc: Global, count: u32, samples: u32) -> Result<Vec<Box<T>>, NoMemory>
     ensures count { IfOk result (λ v. length v.items ≡ count) }
-    ensures room { IfOk result (λ v. AllOfRoom (λ x. length x.samples.items) samples v.items) }
+    ensures room { IfOk result (λ v. AllOfRoom T.room_of (T.room_for samples) v.items) }
 {
     let mut husks = Vec::new(alloc);
     for made in 0..count {
-        husks.push(Item::blank(alloc, samples)?)?;
+        husks.push(T::husk(alloc, samples)?)?;
     }
     Ok(husks)
 }
 
-// So many empty boxes for blocks of takes of so many samples.
-fn blocks(alloc: Global, count: u32, samples: u32) -> Result<Vec<Box<TakeBlock>>, NoMemory>
-    ensures count { IfOk result (λ v. length v.items ≡ count) }
-    ensures room { IfOk result (λ v. AllOfRoom (λ x. length x.samples.items) samples v.items) }
-{
-    let mut husks = Vec::new(alloc);
-    for made in 0..count {
-        husks.push(TakeBlock::blank(alloc, samples)?)?;
-    }
-    Ok(husks)
-}
-
-// So many boxes for acknowledgements.
-fn acks(alloc: Global, count: u32) -> Result<Vec<Box<Ack>>, NoMemory>
-    ensures count { IfOk result (λ v. length v.items ≡ count) }
-    ensures room { IfOk result (λ v. AllOfRoom (λ x. 0) 0 v.items) }
-{
-    let mut husks = Vec::new(alloc);
-    for made in 0..count {
-        let ack = Ack {
-            cycle: 0,
-            generation: 0,
-            next: 0,
-            settled: 0,
-        };
-        husks.push(Box::new(alloc, ack)?)?;
-    }
-    Ok(husks)
-}
-
-/// A new ring for the items of a track.
-pub(crate) fn item_ring(
+/// A new ring of so many boxes.
+pub(crate) fn new_ring<T: Husk>(
     alloc: Global,
     depth: u32,
     samples: u32,
-) -> Result<(RingIn<Item>, RingOut<Item>), NoMemory>
+) -> Result<(RingIn<T>, RingOut<T>), NoMemory>
     requires { 0 < depth }
-    ensures { IfOk result (λ r. IsRing depth samples r.0 r.1) }
+    ensures { IfOk result (λ r. IsRing depth (T.room_for samples) r.0 r.1) }
 {
-    let husks = items(alloc, depth, samples)?;
-    ring(alloc, depth, husks)
-}
-
-/// A new ring for the blocks of a track's takes.
-pub(crate) fn take_ring(
-    alloc: Global,
-    depth: u32,
-    samples: u32,
-) -> Result<(RingIn<TakeBlock>, RingOut<TakeBlock>), NoMemory>
-    requires { 0 < depth }
-    ensures { IfOk result (λ r. IsRing depth samples r.0 r.1) }
-{
-    let husks = blocks(alloc, depth, samples)?;
-    ring(alloc, depth, husks)
-}
-
-/// A new ring for acknowledgements.
-pub(crate) fn ack_ring(alloc: Global, depth: u32) -> Result<(RingIn<Ack>, RingOut<Ack>), NoMemory>
-    requires { 0 < depth }
-    ensures { IfOk result (λ r. IsRing depth 0 r.0 r.1) }
-{
-    let husks = acks(alloc, depth)?;
+    let husks = husks(alloc, depth, samples)?;
     ring(alloc, depth, husks)
 }

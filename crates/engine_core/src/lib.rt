@@ -1,4 +1,6 @@
 //! The engine on one thread: butler and process take turns, and what they did is the journal, the master and the rings.
+//! Before each step the two ends of each ring meet: each tells the other what it knows, as two threads would by and by. The
+//! process gathers: it looks once at the ring of each track. A husk is an empty box, which travels back to be filled again.
 #![tactic(auto)]
 
 mod answers;
@@ -9,13 +11,13 @@ mod events;
 mod finishing;
 mod husks;
 mod joining;
+mod lists;
 mod performing;
 mod playing;
 mod rings;
+mod run_ends;
 mod serial;
-mod shelves;
 mod starting;
-mod wiring;
 
 pub use events::{Event, run_events};
 pub use process_cycle::{Faults, Finished, Grant, Opened, RingsList, Script, TrackRings};

@@ -1,14 +1,11 @@
 //! A run with what it needs of the world: the media and the master.
-ghost use Rattle.std.specs.Prelude.{◌≡◌, ◌++◌, true, false, IfOk, IfErr};
-ghost use Rattle.session_model.specs.declared.session.Session.{Session as Opening};
-ghost use Rattle.engine_model.specs.Played.{master_file, samples_of};
-ghost use Rattle.audio_source.specs.Told.{source_sound};
-ghost use Rattle.cycle_journal.specs.Seen.{seen_entries};
+ghost use Rattle.std.specs.Prelude.{◌≡◌, IfOk, IfErr};
+ghost use Rattle.ses_io.specs.Outside.{OnlyReads};
+ghost use Rattle.engine_model.specs.Plain.{accepted, export_commands};
 ghost use Rattle.disk_ring.specs.Rings.{Whole};
-ghost use Rattle.engine_core.specs.Serial.{IsCounted};
-ghost use Rattle.engine_core.specs.Written.{IsCutOff};
-ghost use Rattle.engine_core.specs.Passed.{AllGenuine};
-ghost use Rattle.engine_core.specs.Events.{MayPlay, Leaves};
+ghost use Rattle.engine_core.specs.Begun.{Begun};
+ghost use Rattle.engine_core.specs.Starting.{IsTold};
+ghost use Rattle.engine_core.specs.Events.{MayPlay, IsLeft};
 
 use crate::control::controlled;
 use crate::finishing::{Ended, close, part};
@@ -29,22 +26,13 @@ pub(crate) fn play_script<M: Media, W: Sink>(
     media: M,
     master: W,
 ) -> Result<Ended<M, W>, (M, W)>
-    requires { (s : Opening) × MayPlay s edition sources cycles }
-    ensures leaves { IfOk result (λ x. (s : Opening) → MayPlay s edition sources cycles
-        → Leaves s script.from cycles x.edits.items (seen_entries x.journal.items) x.rings.items x.faults) }
-    ensures genuine { M.tells → IfOk result (λ x. (s : Opening) → MayPlay s edition sources cycles
-        → AllGenuine (source_sound (M.files media) sources) s x.edits.items x.rings.items) }
-    ensures master { M.tells → W.tells → IfOk result (λ x. (s : Opening) → MayPlay s edition sources cycles
-        → x.faults.master ≡ false → W.held x.master ≡ W.held master ++ master_file s x.edits.items
-        (samples_of (source_sound (M.files media) sources) s x.edits.items) cycles (seen_entries x.journal.items)) }
-    ensures front { M.tells → W.tells → IfOk result (λ x. (s : Opening) → MayPlay s edition sources cycles
-        → x.faults.master ≡ true → IsCutOff (W.held master) (W.held x.master) s x.edits.items
-        (samples_of (source_sound (M.files media) sources) s x.edits.items) cycles (seen_entries x.journal.items)) }
+    ghost begun: { Begun }
+    requires may { MayPlay begun.session edition sources cycles }
+    requires edits { begun.edits ≡ accepted begun.session cycles (export_commands script.from) }
+    requires told { IsTold M.outside W.outside begun media sources master }
+    ensures left { IfOk result (IsLeft M.outside W.outside begun script.from cycles) }
     ensures acks { IfOk result (λ x. Whole x.acks) }
-    ensures reads { IfOk result (λ x. IsCounted (M.read_faults media) (M.read_faults x.media) x.faults.read) }
-    ensures writes { IfOk result (λ x. IsCounted (W.faults master) (W.faults x.master) x.faults.master) }
-    ensures files { IfOk result (λ x. M.files x.media ≡ M.files media) }
-    ensures other_count { IfOk result (λ x. M.write_faults x.media ≡ M.write_faults media) }
+    ensures only_reads { IfOk result (λ x. OnlyReads M.outside media x.media) }
     ensures back { IfErr result (λ p. (p.0 ≡ media) × (p.1 ≡ master)) }
 {
     let edition = controlled(edition, script);
@@ -52,8 +40,8 @@ pub(crate) fn play_script<M: Media, W: Sink>(
         Ok(started) => started,
         Err(back) => return Err(back),
     };
-    let Started { run, shelves } = started;
+    let Started { run, lists } = started;
     let run = run.perform(cycles);
     let closed = close(run);
-    Ok(part(closed, shelves))
+    Ok(part(closed, lists))
 }

@@ -1,12 +1,12 @@
 //! How a run starts: its rings, its two workers and its lists are made, so that nothing takes memory later.
 ghost use Rattle.std.specs.Prelude.{◌≡◌, IfOk, IfErr, length, [], false};
-ghost use Rattle.session_model.specs.declared.session.Session.{Session as Opening};
-ghost use Rattle.engine_core.specs.Starting.{MayStart, HasStarted, no_faults};
+ghost use Rattle.engine_core.specs.Begun.{Begun};
+ghost use Rattle.engine_core.specs.Starting.{MayStart, StartsARun, no_faults};
 
 use crate::engine::Core;
+use crate::lists::{RunLists, empty_lists};
+use crate::run_ends::{RunEnds, new_run_ends};
 use crate::serial::Run;
-use crate::shelves::{Shelves, empty_shelves};
-use crate::wiring::{Wiring, wire_up};
 use audio_source::Sources;
 use butler::Butler;
 use edition_log::Edition;
@@ -18,7 +18,7 @@ use std::alloc::Global;
 #[derive(Drop)]
 pub(crate) struct Started<M, W> {
     pub(crate) run: Run<M, W>,
-    pub(crate) shelves: Shelves,
+    pub(crate) lists: RunLists,
 }
 
 // Nothing failed yet.
@@ -47,27 +47,26 @@ pub(crate) fn start<M: Media, W: Sink>(
     media: M,
     master: W,
 ) -> Result<Started<M, W>, (M, W)>
-    requires { (s : Opening) × MayStart s edition sources cycles }
-    ensures started { IfOk result (λ x. (s : Opening) → MayStart s edition sources cycles
-        → HasStarted s edition sources cycles media master x.run) }
-    ensures shelves { IfOk result (λ x. x.shelves ≡ record {
+    ghost begun: { Begun }
+    requires { MayStart begun.session edition sources cycles }
+    ensures started { IfOk result (StartsARun begun.session edition sources cycles media master) }
+    ensures lists { IfOk result (λ x. x.lists ≡ record {
       rings = record { items = []; room = length edition.session.tracks.items };
-      backwards = record { items = []; room = length edition.session.tracks.items };
       edits = record { items = []; room = 10000 };
     }) }
     ensures back { IfErr result (λ p. (p.0 ≡ media) × (p.1 ≡ master)) }
 {
-    let Ok(shelves) = empty_shelves(alloc, edition.session().tracks.len() as u32) else {
+    let Ok(lists) = empty_lists(alloc, edition.session().tracks.len() as u32) else {
         return Err((media, master));
     };
-    let Ok(wiring) = wire_up(alloc, edition.session()) else {
+    let Ok(run_ends) = new_run_ends(alloc, edition.session()) else {
         return Err((media, master));
     };
-    let Wiring {
+    let RunEnds {
         process,
         butler,
         acks,
-    } = wiring;
+    } = run_ends;
     let mut process = match Process::new(alloc, &edition, cycles, master, process) {
         Ok(process) => process,
         Err(master) => return Err((media, master)),
@@ -87,7 +86,7 @@ pub(crate) fn start<M: Media, W: Sink>(
         core,
         faults: no_faults(),
     };
-    Ok(Started { run, shelves })
+    Ok(Started { run, lists })
 }
 
 // The master that a process has.

@@ -13,11 +13,15 @@ pub mod EditionLemmas
 pub mod LawfulLemmas
 pub mod PlainLemmas
 pub mod PlayedLemmas
+pub mod PlainRouteLemmas
 pub mod PlainSessionLemmas
 pub mod MixedLemmas
-pub mod StandingLemmas
+pub mod JournalInvariantLemmas
+pub mod EntryNotesLemmas
 pub mod EntryLemmas
+pub mod TruthfulLemmas
 pub mod TruthLemmas
+pub mod HeldLemmas
 pub mod SerialLemmas
 pub mod MasterLemmas
 pub mod Laws

@@ -19,7 +19,8 @@ use Rattle.engine_model.specs.Journal.{State, Stopped, Seeking, Rolling, Entry}
 use Rattle.engine_model.specs.PlainSession.{is_plain, has_16_bits}
 use Rattle.engine_model.specs.Played.{Samples, block, block_in, master_at, master_channels, master_file, master_form, master_samples}
 use Rattle.engine_laws.specs.PlayedLaws.{block_bytes}
-use Rattle.engine_laws.proofs.PlainSessionLemmas.{mono_at, plain_parts}
+use Rattle.engine_laws.proofs.PlainRouteLemmas.{plain_parts}
+use Rattle.engine_laws.proofs.PlainSessionLemmas.{mono_at}
 
 -- the bytes of blocks, one after another
 bytes_of_blocks : (session : Session) (edits : List Edit) (samples : Samples) (journal : List Entry) →

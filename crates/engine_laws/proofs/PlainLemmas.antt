@@ -150,11 +150,11 @@ plain_from_is_lawful session cycles (Sync ∷ cs) run unended h = let b = needs_
 -- ---- the edits of the commands
 
 -- the edits of a run are accepted, and none of them is a quit
-pub record IsRun (session : Session) (run : Run) : Type 0 where
+pub record IsRunOfEdits (session : Session) (run : Run) : Type 0 where
   pub edits : IsAccepted session run.edits
   pub unended : IsOpen run
 
-next_accepted : (session : Session) (run : Run) (e : Edit) → IsRun session run → accepts session run e ≡ true → IsAccepted session (with_edit run e).edits
+next_accepted : (session : Session) (run : Run) (e : Edit) → IsRunOfEdits session run → accepts session run e ≡ true → IsAccepted session (with_edit run e).edits
 next_accepted session run e h ok = accepted_more session run.edits e h.edits (quit_is session run.edits (length run.edits) h.edits (omega arith) ∙ h.unended) ok
 
 sync_accepted : (session : Session) (cycles : ℕ) (cs : List Command) (run : Run) (b : Bool) → IsAccepted session (plain_from session cycles (with_cycles session cycles 1 run) cs).edits →
@@ -162,14 +162,14 @@ sync_accepted : (session : Session) (cycles : ℕ) (cs : List Command) (run : Ru
 sync_accepted session cycles cs run true played not_played = played
 sync_accepted session cycles cs run false played not_played = not_played
 
-step_accepted : (session : Session) (cycles : ℕ) (run : Run) (e : Edit) (cs : List Command) (taken quits : Bool) → accepts session run e ≡ taken → is_quit e ≡ quits → IsRun session run →
+step_accepted : (session : Session) (cycles : ℕ) (run : Run) (e : Edit) (cs : List Command) (taken quits : Bool) → accepts session run e ≡ taken → is_quit e ≡ quits → IsRunOfEdits session run →
     IsAccepted session (plain_from session cycles run cs).edits → (IsAccepted session (with_edit run e).edits → quits ≡ false → IsAccepted session (plain_from session cycles (with_edit run e) cs).edits) →
     IsAccepted session (if taken then (if quits then with_edit run e else plain_from session cycles (with_edit run e) cs) else plain_from session cycles run cs).edits
 step_accepted session cycles run e cs false quits a q h refused done = refused
 step_accepted session cycles run e cs true true a q h refused done = next_accepted session run e h a
 step_accepted session cycles run e cs true false a q h refused done = done (next_accepted session run e h a) refl
 
-pub plain_edits_are_accepted : (session : Session) (cycles : ℕ) (cs : List Command) (run : Run) → IsRun session run → IsAccepted session (plain_from session cycles run cs).edits
+pub plain_edits_are_accepted : (session : Session) (cycles : ℕ) (cs : List Command) (run : Run) → IsRunOfEdits session run → IsAccepted session (plain_from session cycles run cs).edits
 plain_edits_are_accepted session cycles [] run h = h.edits
 plain_edits_are_accepted session cycles (Do e ∷ cs) run h = step_accepted session cycles run e cs (accepts session run e) (is_quit e) refl refl h
     (plain_edits_are_accepted session cycles cs run h)

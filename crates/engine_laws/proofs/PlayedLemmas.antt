@@ -6,11 +6,12 @@ use Rattle.sound_model.specs.Regions.{Sounds}
 use Rattle.sound_model.specs.Layers.{track_sample}
 use Rattle.session_model.specs.declared.session.Session.{Session}
 use Rattle.session_model.specs.declared.edit.Edit.{Edit}
+use Rattle.session_model.specs.declared.edit.Edit.TheVariants.{Roll}
 use Rattle.session_model.specs.Formed.{channels_at}
 use Rattle.session_model.specs.Frames.{interleaved}
 use Rattle.session_model.specs.Views.{track_regions}
 use Rattle.engine_model.specs.Edits.{playlist_edition, generation}
-use Rattle.engine_model.specs.Editions.{Edition, edition, after_one, taken_up, unless_refused, refusal, changed, Refusal}
+use Rattle.engine_model.specs.Editions.{Edition, edition, after_one, taken_up, unless_refused, refusal, changed, session_after, Refusal}
 use Rattle.engine_model.specs.Items.{Kind, Piece, Settled, Blank}
 use Rattle.engine_model.specs.Transport.{place}
 use Rattle.engine_model.specs.Played.{samples_of, piece_samples, IsGenuineAs}
@@ -19,8 +20,12 @@ use Rattle.engine_laws.proofs.PlaceLemmas.{place_stays}
 use Rattle.engine_laws.specs.PlayedLaws.{IsNamed}
 
 -- no edit that is carried out so far changes what the session holds
+pub session_keeps : (s : Session) (edit : Edit) → session_after s edit ≡ s
+session_keeps s Roll = refl
+session_keeps s _ = refl
+
 unless_keeps : (e : Edition) (edit : Edit) (why : Option Refusal) → (taken_up e (unless_refused why (changed e edit))).session ≡ e.session
-unless_keeps e edit None = refl
+unless_keeps e edit None = session_keeps e.session edit
 unless_keeps e edit (Some w) = refl
 
 one_keeps : (e : Edition) (edit : Option Edit) → (after_one e edit).session ≡ e.session

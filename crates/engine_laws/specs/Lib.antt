@@ -9,6 +9,6 @@ pub mod HeardLaws
 pub mod NumbersLaws
 pub mod JournalLaws
 pub mod PlayedLaws
-pub mod Standing
+pub mod JournalInvariant
 pub mod TruthLaws
 pub mod SerialLaws

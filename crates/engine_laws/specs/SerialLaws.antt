@@ -14,7 +14,7 @@ use Rattle.engine_model.specs.Plain.{plain_entry}
 use Rattle.engine_laws.specs.Kept.{Kept}
 use Rattle.engine_laws.specs.Tracked.{Tracked}
 use Rattle.engine_laws.specs.Entered.{GoneOn}
-use Rattle.engine_laws.specs.Standing.{no_takes}
+use Rattle.engine_laws.specs.JournalInvariant.{no_takes}
 
 -- where block s of generation g is next, none of the items is held
 abbrev pub none_is_held : ℕ → ℕ → ℕ → List Kind → Bool

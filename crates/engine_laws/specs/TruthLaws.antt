@@ -9,7 +9,7 @@ use Rattle.engine_model.specs.Items.{Kind}
 use Rattle.engine_model.specs.Journal.{Entry, rolled}
 use Rattle.engine_model.specs.Cycle.{is_held, entry_of}
 use Rattle.engine_model.specs.Truth.{misses, looked, is_missing, is_within, losses, IsTruthful}
-use Rattle.engine_laws.specs.Standing.{no_takes}
+use Rattle.engine_laws.specs.JournalInvariant.{no_takes}
 
 -- by what was received of the track, and by the tails of its looks
 pub record TruthStands (edits : List Edit) (depth t : ℕ) (received : List Kind) (tails : List ℕ) (journal : List Entry) : Type 0 where

@@ -4,12 +4,12 @@
 
 mod editions;
 mod heard;
+mod journal_invariant;
 mod journals;
 mod numbers;
 mod order;
 mod played;
 mod serial;
-mod standing;
 mod truth;
 
 pub use editions::{
@@ -20,6 +20,7 @@ pub use heard::{
     force_never_falls, heard_is_settled, heard_names_an_edition, heard_never_falls,
     next_is_no_older, old_entries_stand,
 };
+pub use journal_invariant::{stands_while_editing, stands_while_receiving, stands_with_its_entry};
 pub use journals::{accepted_is_accepted, lawful_stays, plain_is_lawful};
 pub use numbers::{
     mark_changes_nothing, marks_are_held_or_in_force, new_block_is_farthest,
@@ -37,7 +38,6 @@ pub use played::{
 pub use serial::{
     due_is_not_held, few_are_sent, none_is_held_later, nothing_due_is_ready, ready_entry_is_plain,
 };
-pub use standing::{stands_while_editing, stands_while_receiving, stands_with_its_entry};
 pub use truth::{
     truth_stands_of_the_ring, truth_stands_while_editing, truth_stands_while_receiving,
     truth_stands_with_its_entry,

@@ -8,7 +8,7 @@ use Rattle.engine_model.specs.Items.{Kind, Piece, Settled}
 use Rattle.engine_model.specs.Order.{is_ordered}
 use Rattle.engine_model.specs.Journal.{Silent, Heard, Short, Take, Off, Taken, Lost, Stopped, Seeking, Rolling, Entry}
 use Rattle.engine_model.specs.Fits.{is_lawful}
-use Rattle.engine_model.specs.Cycle.{entry_of, is_held}
+use Rattle.engine_model.specs.Cycle.{entry_of, is_held, settled_number, state_of}
 use Rattle.engine_model.specs.Plain.{Do, Wait, Sync, plain, accepted, export_commands}
 use Rattle.engine_model.proofs.Worked.{wait_then_locate, overwrite_heard, mark_held, rolling, unrecorded}
 
@@ -56,6 +56,24 @@ short_at_first = refl
 rolling_at_rest : is_lawful base overwrite_heard (rolling 0 0 0 0 (Heard 0) ∷ []) ≡ false
 rolling_at_rest = refl
 
+-- a piece of a later playlist edition than the entry's own may be heard: it was sent after the cycle began
+heard_ahead_of_its_edition : is_lawful base overwrite_heard (rolling 1 1 0 0 (Heard 2) ∷ []) ≡ true
+heard_ahead_of_its_edition = refl
+
+abbrev seeking : ℕ → ℕ → ℕ → Entry
+seeking r track tail = record { edition = r; settled = r; state = Seeking track tail; notes = unrecorded Silent ∷ [] }
+
+a_first_block_is_sought : is_lawful base (Roll ∷ []) (seeking 1 0 0 ∷ rolling 1 1 0 0 (Heard 0) ∷ []) ≡ true
+a_first_block_is_sought = refl
+
+-- no later one is
+a_second_block_sought : is_lawful base (Roll ∷ []) (rolling 1 1 0 0 (Heard 0) ∷ seeking 1 0 1 ∷ []) ≡ false
+a_second_block_sought = refl
+
+-- nor is a track that there isn't
+a_track_past_the_last : is_lawful base (Roll ∷ []) (seeking 1 1 0 ∷ []) ≡ false
+a_track_past_the_last = refl
+
 -- ---- takes: an armed track with recording on
 
 abbrev armed : Session
@@ -76,6 +94,19 @@ two_takes = refl
 the_take_before : is_lawful armed recording (taking 2 0 (Taken 1 0) ∷ stopped 3 ∷ taking 4 1 (Taken 1 1) ∷ []) ≡ false
 the_take_before = refl
 
+-- a cycle that seeks ends a take, since its track wasn't recorded in it
+take_over_a_seek : ℕ → ℕ → List Entry
+take_over_a_seek number index = taking 2 0 (Taken 1 0) ∷ seeking 3 0 1
+    ∷ record { edition = 3; settled = 3; state = Rolling 1 0; notes = record { play = Heard 0; take = Taken number index } ∷ [] } ∷ []
+
+a_take_ends_at_a_seek : is_lawful armed (Recording true ∷ Roll ∷ Locate 0 ∷ []) (take_over_a_seek 2 0) ≡ true
+unfolding take_over_a_seek
+a_take_ends_at_a_seek = refl
+
+a_take_over_a_seek : is_lawful armed (Recording true ∷ Roll ∷ Locate 0 ∷ []) (take_over_a_seek 1 1) ≡ false
+unfolding take_over_a_seek
+a_take_over_a_seek = refl
+
 an_index_left_out : is_lawful armed recording (taking 2 0 (Taken 1 0) ∷ taking 2 1 (Taken 1 2) ∷ []) ≡ false
 an_index_left_out = refl
 
@@ -93,6 +124,21 @@ first_two = Piece 0 0 1 0 ∷ Piece 0 0 0 0 ∷ Settled 1 0 0 ∷ []
 -- the mark of the new generation is held in the second cycle
 mark_is_held : is_held 2 0 1 (Settled 2 1 0) ≡ true
 mark_is_held = refl
+
+-- where block 1 is next and the ring has 2 boxes, a piece is held from block 3 on
+held_from_the_depth_on : is_held 2 0 1 (Piece 0 0 3 0) ≡ true
+held_from_the_depth_on = refl
+
+taken_before_the_depth : is_held 2 0 1 (Piece 0 0 2 0) ≡ false
+taken_before_the_depth = refl
+
+-- of two tracks the second has no mark: nothing is settled
+settled_by_all_tracks : settled_number 2 1 0 ((Settled 2 1 0 ∷ []) ∷ [] ∷ []) ≡ 0
+settled_by_all_tracks = refl
+
+-- and where it has no piece, it is the one that is sought
+the_second_is_sought : state_of true 1 0 ((Piece 0 1 0 0 ∷ []) ∷ (Settled 2 1 0 ∷ []) ∷ []) ≡ Seeking 1 1
+the_second_is_sought = refl
 
 heard_first : entry_of base mark_held [] (first_two ∷ []) (Off ∷ []) 1 ≡ rolling 1 1 0 0 (Heard 0)
 unfolding first_two

@@ -1,7 +1,7 @@
 -- What is sent of a track step by step, and which lists are ordered.
 use Rattle.std.proofs.Common.{◌≡◌, ℕ, zero, suc, List, [], ◌∷◌, refl, true, false, reverse, Option, Some, None}
 use Rattle.session_model.specs.declared.edit.Edit.{Edit}
-use Rattle.session_model.specs.declared.edit.Edit.TheVariants.{Roll}
+use Rattle.session_model.specs.declared.edit.Edit.TheVariants.{Roll, Locate}
 use Rattle.session_model.proofs.SessionVectors.{base}
 use Rattle.engine_model.specs.Items.{Kind, Piece, Settled}
 use Rattle.engine_model.specs.Order.{is_ordered, is_ordered_newest}
@@ -96,6 +96,22 @@ another_track = refl
 -- edit 1 changes no playlist
 no_playlist_edition : is_ordered base mark_held 0 (Piece 0 0 0 1 ∷ []) ≡ false
 no_playlist_edition = refl
+
+-- playlist editions don't fall where a generation begins
+a_playlist_edition_that_fell : is_ordered base (quieter ∷ Locate 0 ∷ []) 0 (Piece 0 0 0 1 ∷ Piece 0 1 0 0 ∷ []) ≡ false
+a_playlist_edition_that_fell = refl
+
+-- ---- what was played isn't sent again: block 0 was acknowledged, and block 1 is revised alone
+
+passed_and_stale : List Ack → List Kind → Option Kind
+passed_and_stale acks sent = due (deep 8) (quieter ∷ []) 100 0 1 acks sent
+
+no_passed_block_is_revised : passed_and_stale (record { cycle = 1; generation = 0; next = 1; settled = 0 } ∷ []) (Piece 0 0 0 0 ∷ Settled 0 0 0 ∷ [])
+    ∷ passed_and_stale (record { cycle = 1; generation = 0; next = 1; settled = 0 } ∷ []) (Piece 0 0 1 0 ∷ Piece 0 0 0 0 ∷ Settled 0 0 0 ∷ [])
+    ∷ passed_and_stale [] (Piece 0 0 0 0 ∷ Settled 0 0 0 ∷ []) ∷ []
+    ≡ Some (Settled 1 0 1) ∷ Some (Piece 0 0 1 1) ∷ Some (Piece 0 0 0 1) ∷ []
+unfolding passed_and_stale
+no_passed_block_is_revised = refl
 
 -- ---- a late block is left out: three cycles were asked, two blocks fit the ring, and two were played meanwhile
 

@@ -1,9 +1,9 @@
 -- What rings and journals say together.
-use Rattle.std.proofs.Common.{◌≡◌, ℕ, List, [], ◌∷◌, refl, true, false, Bool, ◌==◌, map}
+use Rattle.std.proofs.Common.{◌≡◌, ℕ, List, [], ◌∷◌, refl, true, false, Bool, ◌==◌, ◌+◌, map}
 use Rattle.std.specs.List.{list_all}
 use Rattle.session_model.specs.declared.edit.Edit.TheVariants.{Roll}
 use Rattle.engine_model.specs.Items.{Kind, Piece, Settled}
-use Rattle.engine_model.specs.Journal.{Play, Heard, Short, Taken, Lost, Rolling, Entry}
+use Rattle.engine_model.specs.Journal.{Play, Heard, Short, Taken, Lost, Seeking, Rolling, Entry}
 use Rattle.engine_model.specs.Truth.{is_within, misses, is_missing, looked, losses, IsTruthful}
 use Rattle.engine_model.proofs.Worked.{mark_held, rolling}
 
@@ -62,3 +62,24 @@ lost_is_true = record { missing = refl; looked_for = refl; full = refl; found_fu
 -- with one block taken the ring wasn't full
 not_full : list_all (λ l. l.taken == l.head) (losses 0 (taking 0 0 ∷ losing 1 1 0 ∷ [])) ≡ false
 not_full = refl
+
+-- each loss met the ring when just so many had been flushed, and they did so in this order
+losses_in_their_order : list_all (λ l. l.taken == l.head + 2) (losses 0 (taking 0 0 ∷ taking 1 1 ∷ losing 2 2 0 ∷ taking 3 3 ∷ losing 4 4 1 ∷ [])) ≡ true
+losses_in_their_order = refl
+
+heads_changed_round : list_all (λ l. l.taken == l.head + 2) (losses 0 (taking 0 0 ∷ taking 1 1 ∷ losing 2 2 1 ∷ taking 3 3 ∷ losing 4 4 0 ∷ [])) ≡ false
+heads_changed_round = refl
+
+found_the_other_way_round : is_within (map (λ l. l.head) (losses 0 (taking 0 0 ∷ taking 1 1 ∷ losing 2 2 0 ∷ taking 3 3 ∷ losing 4 4 1 ∷ []))) (1 ∷ 0 ∷ []) ≡ false
+found_the_other_way_round = refl
+
+-- ---- a seek is a miss of the track that it names, and of no other
+
+abbrev seeking : ℕ → Entry
+seeking track = record { edition = 1; settled = 0; state = Seeking track 0; notes = [] }
+
+missed_by_its_track : misses (Roll ∷ []) 1 (seeking 1 ∷ []) ≡ record { generation = 0; block = 0; tail = 0 } ∷ []
+missed_by_its_track = refl
+
+missed_by_no_other : misses (Roll ∷ []) 0 (seeking 1 ∷ []) ≡ []
+missed_by_no_other = refl

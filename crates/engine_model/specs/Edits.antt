@@ -5,12 +5,30 @@ use Rattle.std.specs.Option.{option_map_or}
 use Rattle.std.specs.Str.{bytes_eq}
 use Rattle.session_model.specs.declared.session.Session.{Session}
 use Rattle.session_model.specs.declared.edit.Edit.{Edit}
-use Rattle.session_model.specs.declared.edit.Edit.TheVariants.{Quit, Locate, Loop, LoopOff, Add, Remove, Move, Trim, Layer, Opaque, RegionGain, Fade}
+use Rattle.session_model.specs.declared.edit.Edit.TheVariants.{Roll, Stop, Quit, Recording, Locate, Loop, LoopOff, Arm, Solo, Mute, Gain, Pan, Mode, Point, Unpoint, Connect, Send, Unsend, Add, Remove, Move, Trim, Layer, Opaque, RegionGain, Fade}
 
 -- ---- one edit
 
 -- the track whose playlist a region command changes, by its name; none of another command
 abbrev pub region_track : Edit → Option (List ℕ)
+region_track Roll = None
+region_track Stop = None
+region_track Quit = None
+region_track (Recording on) = None
+region_track (Locate to) = None
+region_track (Loop from to) = None
+region_track LoopOff = None
+region_track (Arm track on) = None
+region_track (Solo track on) = None
+region_track (Mute route on) = None
+region_track (Gain route gain) = None
+region_track (Pan route left right) = None
+region_track (Mode route mode) = None
+region_track (Point route at gain) = None
+region_track (Unpoint route at) = None
+region_track (Connect route target) = None
+region_track (Send route target pre gain) = None
+region_track (Unsend route target) = None
 region_track (Add track id source start long at layer) = Some track
 region_track (Remove track id) = Some track
 region_track (Move track id at) = Some track
@@ -19,7 +37,6 @@ region_track (Layer track id layer) = Some track
 region_track (Opaque track id on) = Some track
 region_track (RegionGain track id gain) = Some track
 region_track (Fade track id fade_in fade_out) = Some track
-region_track _ = None
 
 -- the name of a track is the name of its route
 abbrev pub is_named : Session → ℕ → List ℕ → Bool
@@ -31,14 +48,60 @@ touches session t edit = option_map_or (is_named session t) (region_track edit) 
 
 -- the edit starts a generation
 abbrev pub starts : Edit → Bool
+starts Roll = false
+starts Stop = false
+starts Quit = false
+starts (Recording on) = false
 starts (Locate to) = true
 starts (Loop from to) = true
 starts LoopOff = true
-starts _ = false
+starts (Arm track on) = false
+starts (Solo track on) = false
+starts (Mute route on) = false
+starts (Gain route gain) = false
+starts (Pan route left right) = false
+starts (Mode route mode) = false
+starts (Point route at gain) = false
+starts (Unpoint route at) = false
+starts (Connect route target) = false
+starts (Send route target pre gain) = false
+starts (Unsend route target) = false
+starts (Add track id source start long at layer) = false
+starts (Remove track id) = false
+starts (Move track id at) = false
+starts (Trim track id start long) = false
+starts (Layer track id layer) = false
+starts (Opaque track id on) = false
+starts (RegionGain track id gain) = false
+starts (Fade track id fade_in fade_out) = false
 
 abbrev pub is_quit : Edit → Bool
+is_quit Roll = false
+is_quit Stop = false
 is_quit Quit = true
-is_quit _ = false
+is_quit (Recording on) = false
+is_quit (Locate to) = false
+is_quit (Loop from to) = false
+is_quit LoopOff = false
+is_quit (Arm track on) = false
+is_quit (Solo track on) = false
+is_quit (Mute route on) = false
+is_quit (Gain route gain) = false
+is_quit (Pan route left right) = false
+is_quit (Mode route mode) = false
+is_quit (Point route at gain) = false
+is_quit (Unpoint route at) = false
+is_quit (Connect route target) = false
+is_quit (Send route target pre gain) = false
+is_quit (Unsend route target) = false
+is_quit (Add track id source start long at layer) = false
+is_quit (Remove track id) = false
+is_quit (Move track id at) = false
+is_quit (Trim track id start long) = false
+is_quit (Layer track id layer) = false
+is_quit (Opaque track id on) = false
+is_quit (RegionGain track id gain) = false
+is_quit (Fade track id fade_in fade_out) = false
 
 -- ---- the first k edits of a list
 

@@ -1,7 +1,7 @@
 -- The transport: what rolls, from which place, and round which loop (Ardour's manual, transport; generations are own).
 use Rattle.std.specs.Prelude.{ℕ, zero, suc, ◌+◌, ◌-◌, ◌%◌, Bool, true, false, ◌&&◌, nat_lt, nat_le, if◌then◌else◌, List, [], ◌∷◌, Option, Some, None}
 use Rattle.session_model.specs.declared.edit.Edit.{Edit}
-use Rattle.session_model.specs.declared.edit.Edit.TheVariants.{Roll, Stop, Quit, Recording, Locate, Loop, LoopOff}
+use Rattle.session_model.specs.declared.edit.Edit.TheVariants.{Roll, Stop, Quit, Recording, Locate, Loop, LoopOff, Arm, Solo, Mute, Gain, Pan, Mode, Point, Unpoint, Connect, Send, Unsend, Add, Remove, Move, Trim, Layer, Opaque, RegionGain, Fade}
 use Rattle.engine_model.specs.Edits.{starts}
 
 -- a loop plays the places from one to before another, again and again
@@ -41,7 +41,25 @@ moved c (Recording on) = record { rolling = c.rolling; recording = on; generatio
 moved c (Locate to) = started c to c.wrap
 moved c (Loop from to) = started c from (Some (record { from = from; to = to }))
 moved c LoopOff = started c (end_of c.wrap) None
-moved c _ = c
+moved c (Arm track on) = c
+moved c (Solo track on) = c
+moved c (Mute route on) = c
+moved c (Gain route gain) = c
+moved c (Pan route left right) = c
+moved c (Mode route mode) = c
+moved c (Point route at gain) = c
+moved c (Unpoint route at) = c
+moved c (Connect route target) = c
+moved c (Send route target pre gain) = c
+moved c (Unsend route target) = c
+moved c (Add track id source start long at layer) = c
+moved c (Remove track id) = c
+moved c (Move track id at) = c
+moved c (Trim track id start long) = c
+moved c (Layer track id layer) = c
+moved c (Opaque track id on) = c
+moved c (RegionGain track id gain) = c
+moved c (Fade track id fade_in fade_out) = c
 
 abbrev pub moved_by : Transport → List Edit → Transport
 moved_by c [] = c

@@ -2,8 +2,6 @@
 #![tactic(auto)]
 
 mod frames;
-#[cfg(test)]
-mod tests;
 mod transport;
 
 pub use frames::places;

@@ -1,5 +1,10 @@
 //! An acknowledgement: how far the process came, told to butler and control.
+ghost use Rattle.std.specs.Prelude.{◌≡◌, IfOk};
+ghost use Rattle.piece_item.specs.Blanks.{blank_ack};
+
 use disk_ring::Roomy;
+use ses_io::NoMemory;
+use std::alloc::Global;
 
 /// What the process tells after an entry of its journal (own).
 #[derive(Clone, Copy, Debug, PartialEq, Eq)]
@@ -19,5 +24,20 @@ impl Roomy for Ack {
 
     fn room(&self) -> u32 {
         0
+    }
+}
+
+impl Ack {
+    /// An empty box for an acknowledgement: its numbers are 0.
+    pub fn blank(alloc: Global) -> Result<Box<Ack>, NoMemory>
+        ensures { IfOk result (λ ack. ack.value ≡ blank_ack) }
+    {
+        let ack = Ack {
+            cycle: 0,
+            generation: 0,
+            next: 0,
+            settled: 0,
+        };
+        Ok(Box::new(alloc, ack)?)
     }
 }

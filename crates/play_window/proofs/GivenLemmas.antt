@@ -3,7 +3,7 @@ use Rattle.std.proofs.Common.{◌≡◌, ℕ, ◌+◌, ◌<◌, ◌≤◌, List,
 use Rattle.std.specs.Prelude.{Bool, true, false, ◌&&◌, ◌==◌, nat_le, nat_lt, None, Some}
 use Rattle.engine_model.specs.Items.{Kind, Piece, Settled, Blank}
 use Rattle.play_window.specs.Offers.{Offered, AreInOrder, IsNear, is_piece_of, gives, last_given, last_generation, last_next, is_passed, piece_of}
-use Rattle.play_window.specs.Seen.{Seen, IsWindowOf, IsNoEarlier, has}
+use Rattle.play_window.specs.WindowState.{WindowState, IsWindowOf, IsNoEarlier, has}
 use Rattle.play_window.proofs.BoxLemmas.{unless, when}
 
 -- a piece of generation h whose block isn't passed
@@ -42,10 +42,10 @@ passed_is depth g s [] order from = grind arith
 passed_is depth g s (o ∷ offers) order from = grind (arith, not_passed depth g s offers order.1, order.0.generation)
 
 -- a block that isn't passed shows what the window has of it
-pub shown : (w : Seen) (offers : List Offered) → IsWindowOf offers w → (g s : ℕ) → w.generation ≤ g → (w.generation == g && nat_lt s w.next) ≡ false → has w g s ≡ piece_of g s offers
+pub shown : (w : WindowState) (offers : List Offered) → IsWindowOf offers w → (g s : ℕ) → w.generation ≤ g → (w.generation == g && nat_lt s w.next) ≡ false → has w g s ≡ piece_of g s offers
 shown w offers is g s from ahead = let unpassed : is_passed g s offers ≡ false = passed_is w.depth g s offers is.order (omega (arith, is.generation)) ∙ grind (arith, is.generation, is.next, ahead) in
     is.pieces g s (record { generation = from; block = λ e. grind (arith, ahead) }) ∙ sym (unless (is_passed g s offers) None (last_given g s offers) unpassed)
 
-pub hidden : (w : Seen) (offers : List Offered) → IsWindowOf offers w → (g s : ℕ) → w.generation ≤ g → (w.generation == g && nat_lt s w.next) ≡ true → None ≡ piece_of g s offers
+pub hidden : (w : WindowState) (offers : List Offered) → IsWindowOf offers w → (g s : ℕ) → w.generation ≤ g → (w.generation == g && nat_lt s w.next) ≡ true → None ≡ piece_of g s offers
 hidden w offers is g s from behind = let passed : is_passed g s offers ≡ true = passed_is w.depth g s offers is.order (omega (arith, is.generation)) ∙ grind (arith, is.generation, is.next, behind) in
     sym (when (is_passed g s offers) None (last_given g s offers) passed)

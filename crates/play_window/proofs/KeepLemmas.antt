@@ -9,19 +9,19 @@ use Rattle.piece_item.specs.declared.item.Item.{Item}
 use Rattle.piece_item.specs.Views.{item_of, kind_of}
 use Rattle.disk_ring.proofs.Slots.{apart}
 use Rattle.play_window.specs.Offers.{Offered, MayFollow, IsNear, is_later, kinds, gives, is_piece_of, last_given}
-use Rattle.play_window.specs.Seen.{Seen, IsWindowOf, IsNoEarlier, piece_in}
+use Rattle.play_window.specs.WindowState.{WindowState, IsWindowOf, IsNoEarlier, piece_in}
 use Rattle.play_window.proofs.BoxLemmas.{get_written, get_other, unless, when}
 use Rattle.play_window.proofs.GivenLemmas.{is_kept, gives_none_dropped, none_far}
 use Rattle.play_window.proofs.MarkLemmas.{marked, marked_is}
 
 -- the window after an offer, with these boxes
-abbrev pub after : Seen → Offered → List (Box Item Global) → Seen
+abbrev pub after : WindowState → Offered → List (Box Item Global) → WindowState
 after w o boxes = record { depth = w.depth; samples = w.samples; generation = o.generation; next = o.next; mark = marked o.item.kind w.mark; boxes = boxes }
 
-abbrev seen : ℕ → ℕ → ℕ → ℕ → ℕ → List (Box Item Global) → Seen
+abbrev seen : ℕ → ℕ → ℕ → ℕ → ℕ → List (Box Item Global) → WindowState
 seen depth samples generation next mark boxes = record { depth = depth; samples = samples; generation = generation; next = next; mark = mark; boxes = boxes }
 
-same_seen : (v w : Seen) → v.depth ≡ w.depth → v.samples ≡ w.samples → v.generation ≡ w.generation → v.next ≡ w.next → v.mark ≡ w.mark → v.boxes ≡ w.boxes → v ≡ w
+same_seen : (v w : WindowState) → v.depth ≡ w.depth → v.samples ≡ w.samples → v.generation ≡ w.generation → v.next ≡ w.next → v.mark ≡ w.mark → v.boxes ≡ w.boxes → v ≡ w
 same_seen v w d s g n m b = ap (λ x. seen x v.samples v.generation v.next v.mark v.boxes) d ∙ ap (λ x. seen w.depth x v.generation v.next v.mark v.boxes) s
     ∙ ap (λ x. seen w.depth w.samples x v.next v.mark v.boxes) g ∙ ap (λ x. seen w.depth w.samples w.generation x v.mark v.boxes) n
     ∙ ap (λ x. seen w.depth w.samples w.generation w.next x v.boxes) m ∙ ap (λ x. seen w.depth w.samples w.generation w.next w.mark x) b
@@ -33,10 +33,10 @@ since h n i m g s low within from = record {
   block = λ e. omega (arith, from.generation, from.block (omega (arith, from.generation)), within (omega (arith, from.generation)));
 }
 
-before : (w : Seen) (o : Offered) (offers : List Offered) → IsWindowOf offers w → MayFollow w.depth offers o → (g s : ℕ) → IsNoEarlier o.generation o.next g s → IsNoEarlier w.generation w.next g s
+before : (w : WindowState) (o : Offered) (offers : List Offered) → IsWindowOf offers w → MayFollow w.depth offers o → (g s : ℕ) → IsNoEarlier o.generation o.next g s → IsNoEarlier w.generation w.next g s
 before w o offers is may g s from = since w.generation w.next o.generation o.next g s (omega (arith, is.generation, may.generation)) (λ e. omega (arith, is.generation, is.next, may.next (sym is.generation ∙ e))) from
 
-pub goes_on : (w : Seen) (o : Offered) (offers : List Offered) (boxes : List (Box Item Global)) → IsWindowOf offers w → MayFollow w.depth offers o
+pub goes_on : (w : WindowState) (o : Offered) (offers : List Offered) (boxes : List (Box Item Global)) → IsWindowOf offers w → MayFollow w.depth offers o
     → ((g s : ℕ) → IsNoEarlier o.generation o.next g s → piece_in g s (slice_get boxes (s % w.depth)) ≡ last_given g s (o ∷ offers))
     → IsWindowOf (o ∷ offers) (after w o boxes)
 goes_on w o offers boxes is may pieces = record {
@@ -49,7 +49,7 @@ goes_on w o offers boxes is may pieces = record {
 }
 
 -- an item that isn't kept leaves the boxes as they are
-pub drops : (w : Seen) (o : Offered) (offers : List Offered) → IsWindowOf offers w → MayFollow w.depth offers o → is_kept o.generation o.next o.item.kind ≡ false
+pub drops : (w : WindowState) (o : Offered) (offers : List Offered) → IsWindowOf offers w → MayFollow w.depth offers o → is_kept o.generation o.next o.item.kind ≡ false
     → IsWindowOf (o ∷ offers) (after w o w.boxes)
 drops w o offers is may dropped = goes_on w o offers w.boxes is may (λ g s from.
     is.pieces g s (before w o offers is may g s from) ∙ sym (unless (gives g s o) (Some o.item) (last_given g s offers) (gives_none_dropped g s o.generation o.next o.item.kind from dropped)))
@@ -73,7 +73,7 @@ is_now g s (Piece t h r p) e = grind (arith, e)
 is_now g s (Settled j h r) e = absurd (grind (arith, e))
 is_now g s Blank e = refl
 
-module _ (w : Seen) (offers : List Offered) (is : IsWindowOf offers w) (g n : ℕ) (b : Box Item Global) (t q p : ℕ) (kind : kind_of b.value.kind ≡ Piece t g q p)
+module _ (w : WindowState) (offers : List Offered) (is : IsWindowOf offers w) (g n : ℕ) (b : Box Item Global) (t q p : ℕ) (kind : kind_of b.value.kind ≡ Piece t g q p)
     (may : MayFollow w.depth offers (record { generation = g; next = n; item = item_of b.value })) (ahead : n ≤ q) (some : 0 < w.depth) (wide : length w.boxes ≡ w.depth) where
   abbrev given : Offered
   given = record { generation = g; next = n; item = item_of b.value }
@@ -118,6 +118,6 @@ module _ (w : Seen) (offers : List Offered) (is : IsWindowOf offers w) (g n : �
   keeps_after = goes_on w given offers kept is may pieces
 
   -- a piece that is kept stands in its box
-  pub keeps : (new : Seen) → new.depth ≡ w.depth → new.samples ≡ w.samples → new.generation ≡ g → new.next ≡ n → new.mark ≡ w.mark → new.boxes ≡ kept
+  pub keeps : (new : WindowState) → new.depth ≡ w.depth → new.samples ≡ w.samples → new.generation ≡ g → new.next ≡ n → new.mark ≡ w.mark → new.boxes ≡ kept
       → IsWindowOf (given ∷ offers) new
   keeps new d s e f m boxes = subst (IsWindowOf (given ∷ offers)) (sym (same_seen new (after w given kept) d s e f (m ∙ ap (λ k. marked k w.mark) (sym kind)) boxes)) keeps_after

@@ -1,5 +1,5 @@
 -- A window stays the window of its offers.
-mod BoxLemmas
+pub mod BoxLemmas
 pub mod GivenLemmas
 mod MarkLemmas
 mod KeepLemmas

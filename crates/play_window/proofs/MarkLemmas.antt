@@ -4,7 +4,7 @@ use Rattle.std.specs.Prelude.{max, false}
 use Rattle.engine_model.specs.Items.{Kind, Piece, Settled, Blank}
 use Rattle.engine_model.specs.Cycle.{force}
 use Rattle.play_window.specs.Offers.{IsNear, is_later}
-use Rattle.play_window.specs.Seen.{IsNoEarlier}
+use Rattle.play_window.specs.WindowState.{IsNoEarlier}
 
 -- the greatest mark, given the one before the item
 abbrev pub marked : Kind → ℕ → ℕ

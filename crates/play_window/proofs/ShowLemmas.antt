@@ -6,7 +6,7 @@ use native.Mathlib.Decide.{ℕ_discrete}
 use Rattle.engine_model.specs.Items.{Kind, Item, Piece, Settled, Blank, newest}
 use Rattle.engine_model.specs.Cycle.{has_piece}
 use Rattle.play_window.specs.Offers.{Offered, kinds, last_generation, last_next, AreInOrder, is_later, is_piece_of, is_passed, last_given}
-use Rattle.play_window.specs.Seen.{IsNoEarlier}
+use Rattle.play_window.specs.WindowState.{IsNoEarlier}
 use Rattle.play_window.specs.Laws.{Shows, UnheldItemsAreTakenIn, WindowsShowTheNewest}
 use Rattle.play_window.proofs.BoxLemmas.{unless, when}
 use Rattle.play_window.proofs.GivenLemmas.{passed_is}

@@ -3,7 +3,7 @@ use Rattle.std.specs.Prelude.{◌≡◌, ℕ, Bool, true, false, ◌↔◌, List
 use Rattle.engine_model.specs.Items.{Kind, Item, Piece, newest}
 use Rattle.engine_model.specs.Cycle.{has_piece, is_held}
 use Rattle.play_window.specs.Offers.{Offered, kinds, is_later, IsNear, last_generation, last_next, AreInOrder, piece_of}
-use Rattle.play_window.specs.Seen.{IsNoEarlier}
+use Rattle.play_window.specs.WindowState.{IsNoEarlier}
 
 -- a piece of block s of generation g by this playlist edition is shown, or none where none was received
 abbrev pub Shows : ℕ → ℕ → Bool → ℕ → Option Item → Type 0

@@ -3,7 +3,7 @@ ghost use Rattle.std.specs.Prelude.{◌≡◌, ℕ, ◌<◌, ◌%◌, length, sl
 ghost use Rattle.disk_ring.specs.Rings.{AllOfRoom};
 ghost use Rattle.piece_item.specs.Views.{item_of};
 ghost use Rattle.piece_item.specs.Blanks.{blank_item};
-ghost use Rattle.play_window.specs.Seen.{piece_in};
+ghost use Rattle.play_window.specs.WindowState.{piece_in};
 
 use piece_item::{Item, Kind};
 use ses_io::NoMemory;

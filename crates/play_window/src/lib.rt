@@ -7,6 +7,3 @@ mod window;
 
 pub use laws::{unheld_items_are_taken_in, windows_show_the_newest};
 pub use window::{Offer, Window};
-
-#[cfg(test)]
-mod tests;

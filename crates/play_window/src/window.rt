@@ -3,8 +3,8 @@ ghost use Rattle.std.specs.Prelude.{◌≡◌, ◌<◌, ◌≤◌, ◌&&◌, ◌
 ghost use Rattle.engine_model.specs.Cycle.{force};
 ghost use Rattle.piece_item.specs.Views.{item_of, kind_of};
 ghost use Rattle.play_window.specs.Offers.{Offered, IsNear, is_later, is_piece_of, kinds, piece_of};
-ghost use Rattle.play_window.specs.Seen.{Seen, IsWindowOf, IsNoEarlier, has};
-ghost use Rattle.play_window.specs.Answers.{Answers, GoesOn, TakesIn};
+ghost use Rattle.play_window.specs.WindowState.{WindowState, IsWindowOf, IsNoEarlier, has};
+ghost use Rattle.play_window.specs.Answers.{OfferAnswers, GoesOn, TakesIn};
 
 use crate::boxes::{blanks, look, swap};
 use piece_item::{Item, Kind};
@@ -25,9 +25,9 @@ pub struct Window {
 impl Model for Window {
     ghost use Rattle.std.specs.Prelude.{◌<◌, length, vec_len};
     ghost use Rattle.disk_ring.specs.Rings.{AllOfRoom};
-    ghost use Rattle.play_window.specs.Seen.{Seen};
+    ghost use Rattle.play_window.specs.WindowState.{WindowState};
 
-    ghost Value = { Seen };
+    ghost Value = { WindowState };
 
     ghost view = { λ w. record { depth = vec_len w.boxes; samples = w.samples; generation = w.generation; next = w.next; mark = w.mark; boxes = w.boxes.items } };
 
@@ -85,7 +85,7 @@ impl Window {
         requires since { IsNoEarlier self.old.generation self.old.next generation next }
         requires near { IsNear self.old.depth generation next (kind_of item.value.kind) }
         requires samples { length item.value.samples.items ≡ self.old.samples }
-        ensures answer { Answers self.old
+        ensures answer { OfferAnswers self.old
             (record { generation = generation; next = next; item = item_of item.value }) item result self.new }
         ensures goes_on { GoesOn self.old generation next self.new }
     {
@@ -174,7 +174,8 @@ impl Window {
     /// A mark that was taken in is in force from then on, so one number is enough.
     pub fn settled(&self, generation: u32, next: u32) -> u32
         requires { IsNoEarlier self.now.generation self.now.next generation next }
-        ensures { (offers : List Offered) → IsWindowOf offers self.now → result ≡ force generation next (kinds offers) }
+        ensures { (offers : List Offered) → IsWindowOf offers self.now
+            → result ≡ force generation next (kinds offers) }
     {
         self.mark
     }

@@ -14,15 +14,16 @@ use Rattle.piece_item.specs.declared.item.Item.{Item}
 use Rattle.piece_item.specs.Views.{item_of, kind_of}
 use Rattle.disk_ring.specs.Receiver.{Receiver}
 use Rattle.play_window.specs.Offers.{Offered, kinds, last_generation, last_next, AreInOrder, is_later, is_piece_of, is_passed, last_given, piece_of}
-use Rattle.play_window.specs.Seen.{IsNoEarlier}
+use Rattle.play_window.specs.WindowState.{IsNoEarlier}
 use Rattle.play_window.specs.Laws.{Shows}
+use Rattle.play_window.proofs.BoxLemmas.{unless, when}
 use Rattle.play_window.proofs.GivenLemmas.{passed_is}
 use Rattle.play_window.proofs.ShowLemmas.{windows_show_the_newest}
-use Rattle.process_cycle.specs.declared.deck.Hand.{Hand}
-use Rattle.process_cycle.specs.declared.deck.Hand.TheVariants.{Husk, Held, Away}
-use Rattle.process_cycle.specs.declared.deck.Deck.{Deck}
-use Rattle.process_cycle.specs.declared.spot.Spot.{Spot}
-use Rattle.process_cycle.specs.Hands.{held, received_items, received_kinds, offers}
+use Rattle.process_cycle.specs.declared.playback.SpareBox.{SpareBox}
+use Rattle.process_cycle.specs.declared.playback.SpareBox.TheVariants.{Husk, Held, Lent}
+use Rattle.process_cycle.specs.declared.playback.TrackPlayback.{TrackPlayback}
+use Rattle.process_cycle.specs.declared.play_position.PlayPosition.{PlayPosition}
+use Rattle.process_cycle.specs.SpareBoxes.{held, received_items, received_kinds, offers}
 use Rattle.process_cycle.specs.Cycles.{IsStillHeld, IsHeard, AreHeard}
 
 abbrev kinds_of : List engine.Item → List engine.Kind
@@ -48,14 +49,6 @@ since h n i m g s low within from = record {
   generation = omega (arith, from.generation);
   block = λ e. omega (arith, from.generation, from.block (omega (arith, from.generation)), within (omega (arith, from.generation)));
 }
-
-pub unless : {X : Type 0} (b : Bool) (x y : X) → b ≡ false → (if b then x else y) ≡ y
-unless true x y e = cc
-unless false x y e = refl
-
-pub when : {X : Type 0} (b : Bool) (x y : X) → b ≡ true → (if b then x else y) ≡ x
-when true x y e = refl
-when false x y e = cc
 
 one_more : (test block : Bool) (item : engine.Item) (found : Option engine.Item) (samples : List ℤ) → test ≡ block → samples_in found ≡ samples
     → samples_in (if test then Some item else found) ≡ (if block then item.samples else samples)
@@ -105,7 +98,7 @@ record SaysTheSame (g s : ℕ) (xs ys : List engine.Item) : Type 0 where
   force : force g s (kinds_of xs) ≡ force g s (kinds_of ys)
   samples : newest_samples g s xs ≡ newest_samples g s ys
 
-but_held : (at : Spot) (hand : Hand) (xs : List engine.Item) → 0 < at.depth → IsStillHeld at hand → SaysTheSame at.generation at.next (held hand ++ xs) xs
+but_held : (at : PlayPosition) (spare : SpareBox) (xs : List engine.Item) → 0 < at.depth → IsStillHeld at spare → SaysTheSame at.generation at.next (held spare ++ xs) xs
 but_held at (Husk box) xs some still = record { has = refl; newest = refl; force = refl; samples = refl }
 but_held at (Held box) xs some still = let k = kind_of box.value.kind in record {
   has = held_has_none at.depth at.generation at.next k (kinds_of xs) some still;
@@ -113,7 +106,7 @@ but_held at (Held box) xs some still = let k = kind_of box.value.kind in record 
   force = held_is_not_in_force at.depth at.generation at.next k (kinds_of xs) still;
   samples = ap (λ b. if b then box.value.samples.items else newest_samples at.generation at.next xs) (held_gives_none at.depth at.generation at.next k some still);
 }
-but_held at Away xs some still = absurd still
+but_held at Lent xs some still = absurd still
 
 -- ---- a track
 
@@ -121,13 +114,13 @@ kinds_are : (given : List Offered) → kinds given ≡ kinds_of (map (λ o. o.it
 kinds_are [] = refl
 kinds_are (o ∷ given) = ap (λ l. o.item.kind ∷ l) (kinds_are given)
 
-module _ (at : Spot) (r : Receiver Item) (d : Deck) (some : 0 < at.depth) (is : IsHeard at r d) where
+module _ (at : PlayPosition) (r : Receiver Item) (d : TrackPlayback) (some : 0 < at.depth) (is : IsHeard at r d) where
   abbrev given : List Offered
   given = is.played.shows.given
 
   same : SaysTheSame at.generation at.next (received_items r) (map (λ o. o.item) given)
   same = subst (λ xs. SaysTheSame at.generation at.next (received_items r) xs) (sym is.played.shows.items)
-      (subst (λ xs. SaysTheSame at.generation at.next xs (offers r d.hand)) (sym is.played.last) (but_held at d.hand (offers r d.hand) some is.held))
+      (subst (λ xs. SaysTheSame at.generation at.next xs (offers r d.spare)) (sym is.played.last) (but_held at d.spare (offers r d.spare) some is.held))
 
   late : IsNoEarlier (last_generation given) (last_next given) at.generation at.next
   late = let w = is.played.shows.window in let until = is.played.until in
@@ -161,12 +154,12 @@ module _ (at : Spot) (r : Receiver Item) (d : Deck) (some : 0 < at.depth) (is : 
 
 -- ---- all tracks
 
--- a track by its deck, with what was received of it
-pub record HasRing (at : Spot) (plays : List (Receiver Item)) (decks : List Deck) (t : ℕ) (d : Deck) : Type 0 where
+-- a track by its playback, with what was received of it
+pub record HasRing (at : PlayPosition) (plays : List (Receiver Item)) (playbacks : List TrackPlayback) (t : ℕ) (d : TrackPlayback) : Type 0 where
   pub ring : Receiver Item
   pub there : slice_get plays t ≡ Some ring
   pub heard : IsHeard at ring d
 
-pub ring_of : (at : Spot) (plays : List (Receiver Item)) (decks : List Deck) (t : ℕ) (d : Deck) → AreHeard at plays decks → t < length decks → d ≡ slice_index_or decks t d → HasRing at plays decks t d
-ring_of at plays decks t d all lt is = let r = item_at plays t (omega (arith, all.count)) in
-    record { ring = r.0; there = r.1; heard = all.each t r.0 d r.1 (slice_get-get_or decks t d lt ∙ ap Some (sym is)) }
+pub ring_of : (at : PlayPosition) (plays : List (Receiver Item)) (playbacks : List TrackPlayback) (t : ℕ) (d : TrackPlayback) → AreHeard at plays playbacks → t < length playbacks → d ≡ slice_index_or playbacks t d → HasRing at plays playbacks t d
+ring_of at plays playbacks t d all lt is = let r = item_at plays t (omega (arith, all.count)) in
+    record { ring = r.0; there = r.1; heard = all.each t r.0 d r.1 (slice_get-get_or playbacks t d lt ∙ ap Some (sym is)) }

@@ -7,10 +7,10 @@ use Rattle.piece_item.specs.Views.{item_of, kind_of}
 use Rattle.disk_ring.specs.Receiver.{Receiver, GoesOnOut}
 use Rattle.disk_ring.proofs.GoesOn.{goes_on_out_refl, goes_on_out_trans}
 use Rattle.play_window.specs.Answers.{TakesIn}
-use Rattle.play_window.specs.Seen.{Seen, IsNoEarlier}
-use Rattle.process_cycle.specs.declared.deck.Hand.TheVariants.{Husk, Held}
-use Rattle.process_cycle.specs.declared.spot.Spot.{Spot}
-use Rattle.process_cycle.specs.Hands.{received_items}
+use Rattle.play_window.specs.WindowState.{WindowState, IsNoEarlier}
+use Rattle.process_cycle.specs.declared.playback.SpareBox.TheVariants.{Husk, Held}
+use Rattle.process_cycle.specs.declared.play_position.PlayPosition.{PlayPosition}
+use Rattle.process_cycle.specs.SpareBoxes.{received_items}
 use Rattle.process_cycle.specs.Looks.{Offers, holds, holds_none}
 use Rattle.process_cycle.proofs.ListLemmas.{last_first}
 
@@ -21,12 +21,12 @@ newest_is a b item e = ap received_items e ∙ last_first item_of a.received ite
 one_free : (b c : Bool) → b ≡ false → c ≡ true → (not b && c) ≡ true
 one_free b c e f = grind (arith, e, f)
 
-pub starts_here : (at : Spot) (a : Receiver Item) (v : Seen) (husk : Box Item Global) → IsNoEarlier v.generation v.next at.generation at.next → Offers at a v a v (Husk husk)
+pub starts_here : (at : PlayPosition) (a : Receiver Item) (v : WindowState) (husk : Box Item Global) → IsNoEarlier v.generation v.next at.generation at.next → Offers at a v a v (Husk husk)
 starts_here at a v husk until = record { taken = []; received = refl; free = refl; window = λ os is. is; depth = refl; samples = refl; until = until; ring = goes_on_out_refl a }
 
-module _ (at : Spot) (a : Receiver Item) (v : Seen) (b c : Receiver Item) (w : Seen) (was : Box Item Global) (so_far : Offers at a v b w (Husk was)) (ring : GoesOnOut b c) where
+module _ (at : PlayPosition) (a : Receiver Item) (v : WindowState) (b c : Receiver Item) (w : WindowState) (was : Box Item Global) (so_far : Offers at a v b w (Husk was)) (ring : GoesOnOut b c) where
   -- an item was taken and offered
-  pub offers_one : (item husk : Box Item Global) (x : Seen) → c ≡ record b { received = b.received ++ item.value ∷ [] } → holds at (kind_of item.value.kind) ≡ false
+  pub offers_one : (item husk : Box Item Global) (x : WindowState) → c ≡ record b { received = b.received ++ item.value ∷ [] } → holds at (kind_of item.value.kind) ≡ false
       → TakesIn w (record { generation = at.generation; next = at.next; item = item_of item.value }) husk x → Offers at a v c x (Husk husk)
   offers_one item husk x took free takes = record {
     taken = item_of item.value ∷ so_far.taken;

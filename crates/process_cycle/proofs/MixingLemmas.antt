@@ -31,11 +31,11 @@ use Rattle.piece_item.specs.declared.item.Item.{Item}
 use Rattle.disk_ring.specs.Receiver.{Receiver}
 use Rattle.cycle_journal.specs.declared.entry.State.{State}
 use Rattle.cycle_journal.specs.declared.entry.State.TheVariants.{Stopped, Seeking, Rolling}
-use Rattle.cycle_journal.specs.Seen.{seen_state}
-use Rattle.process_cycle.specs.declared.deck.Deck.{Deck}
-use Rattle.process_cycle.specs.declared.spot.Spot.{Spot}
-use Rattle.process_cycle.specs.Hands.{received_items}
-use Rattle.process_cycle.specs.Cycles.{IsAt, IsHeard, AreHeard, IsNear, AreNear, AreAdded, AreSums, block_sample}
+use Rattle.cycle_journal.specs.JournalView.{seen_state}
+use Rattle.process_cycle.specs.declared.playback.TrackPlayback.{TrackPlayback}
+use Rattle.process_cycle.specs.declared.play_position.PlayPosition.{PlayPosition}
+use Rattle.process_cycle.specs.SpareBoxes.{received_items}
+use Rattle.process_cycle.specs.Cycles.{IsAt, IsHeard, AreHeard, IsBoundedSum, AreBoundedSums, AreAdded, AreSums, block_sample}
 use Rattle.process_cycle.proofs.HeardLemmas.{ring_of}
 
 -- ---- one sum
@@ -103,21 +103,21 @@ one_total : (f : ℕ → ℤ) (t : ℕ) → total f 0 t +ℤ f t ≡ total f 0 (
 one_total f t = let plus : t + 1 ≡ suc t = omega arith in let none : 0 + t ≡ t = omega arith in
     sym (ap (total f 0) plus ∙ total_last f 0 t ∙ ap (λ n. total f 0 t +ℤ f n) none)
 
-near_more : (n : ℕ) (v x : ℤ) → IsNear n x → IsNear (suc n) (clip v +ℤ x)
+near_more : (n : ℕ) (v x : ℤ) → IsBoundedSum n x → IsBoundedSum (suc n) (clip v +ℤ x)
 near_more n v x near = record { low = grind (arith, near.low); high = grind (arith, near.high) }
 
-near_total : (f : ℕ → ℤ) (t n : ℕ) → IsNear n (total (λ u. clip (f u)) t n)
+near_total : (f : ℕ → ℤ) (t n : ℕ) → IsBoundedSum n (total (λ u. clip (f u)) t n)
 near_total f t zero = record { low = grind arith; high = grind arith }
 near_total f t (suc n) = near_more n (f t) (total (λ u. clip (f u)) (suc t) n) (near_total f (suc t) n)
 
-near_within : (m n : ℕ) (v : ℤ) → m ≤ n → IsNear m v → IsNear n v
+near_within : (m n : ℕ) (v : ℤ) → m ≤ n → IsBoundedSum m v → IsBoundedSum n v
 near_within m n v le near = record { low = grind (arith, le, near.low); high = grind (arith, le, near.high) }
 
-pub sums_are_near : (at : Spot) (tracks : List (List engine.Item)) (many block : ℕ) (sums : List ℤ) → AreSums at tracks many block sums → many ≤ 32 → AreNear 32 sums
-sums_are_near at tracks many block sums are le i lt = subst (λ z. IsNear 32 z) (sym (are.each i (omega (arith, are.long))))
+pub sums_are_near : (at : PlayPosition) (tracks : List (List engine.Item)) (many block : ℕ) (sums : List ℤ) → AreSums at tracks many block sums → many ≤ 32 → AreBoundedSums 32 sums
+sums_are_near at tracks many block sums are le i lt = subst (λ z. IsBoundedSum 32 z) (sym (are.each i (omega (arith, are.long))))
     (near_within many 32 (total (λ t. clip (block_sample at tracks i t)) 0 many) le (near_total (block_sample at tracks i) 0 many))
 
-pub silent_sums : (at : Spot) (tracks : List (List engine.Item)) (block : ℕ) → AreSums at tracks 0 block (replicate block (pos 0))
+pub silent_sums : (at : PlayPosition) (tracks : List (List engine.Item)) (block : ℕ) → AreSums at tracks 0 block (replicate block (pos 0))
 silent_sums at tracks block = record { long = length-replicate block (pos 0); each = λ i lt. get_or-replicate block i (pos 0) (pos 0) lt }
 
 -- the items of a track
@@ -125,10 +125,10 @@ items_at : (plays : List (Receiver Item)) (t : ℕ) (r : Receiver Item) → slic
 items_at plays t r there = get_or_from_slice_get (map received_items plays) t (received_items r) [] (slice_get-map received_items plays t ∙ ap (option_map received_items) there)
 
 -- one more track was added
-pub sums_more : (at : Spot) (plays : List (Receiver Item)) (decks : List Deck) (t block : ℕ) (sums new : List ℤ) (d : Deck) → AreHeard at plays decks → t < length decks → d ≡ slice_index_or decks t d
+pub sums_more : (at : PlayPosition) (plays : List (Receiver Item)) (playbacks : List TrackPlayback) (t block : ℕ) (sums new : List ℤ) (d : TrackPlayback) → AreHeard at plays playbacks → t < length playbacks → d ≡ slice_index_or playbacks t d
     → ((r : Receiver Item) → IsHeard at r d → AreAdded sums (newest_samples at.generation at.next (received_items r)) new)
     → AreSums at (map received_items plays) t block sums → AreSums at (map received_items plays) (t + 1) block new
-sums_more at plays decks t block sums new d all lt is adds are = let r = ring_of at plays decks t d all lt is in let added = adds r.ring r.heard in record {
+sums_more at plays playbacks t block sums new d all lt is adds are = let r = ring_of at plays playbacks t d all lt is in let added = adds r.ring r.heard in record {
   long = added.long ∙ are.long;
   each = λ i within. added.each i (omega (arith, are.long)) ∙ both (are.each i within)
       (ap (λ xs. clip (slice_index_or (newest_samples at.generation at.next xs) i (pos 0))) (sym (items_at plays t r.ring r.there)))
@@ -140,7 +140,7 @@ sums_more at plays decks t block sums new d all lt is adds are = let r = ring_of
 gone : (a n : ℕ) → a + n - a ≡ n
 gone a n = omega arith
 
-frame_is : PlainMasterSums → (s : Session) (edits : List Edit) (at : Spot) (tracks : List (List engine.Item)) (many r i : ℕ) → IsValid s → is_plain s ≡ true → length s.tracks.items ≡ many
+frame_is : PlainMasterSums → (s : Session) (edits : List Edit) (at : PlayPosition) (tracks : List (List engine.Item)) (many r i : ℕ) → IsValid s → is_plain s ≡ true → length s.tracks.items ≡ many
     → mixed_at s edits tracks r at.generation at.next (at.next * s.block + i) 0 ≡ clip (total (λ t. clip (block_sample at tracks i t)) 0 many)
 frame_is law s edits at tracks many r i valid plain count = let x = place edits at.generation (at.next * s.block + i) in
     let heard : ℕ → ℕ → ℤ = received_sample s tracks at.generation at.next (at.next * s.block + i - at.next * s.block) in
@@ -156,7 +156,7 @@ frame_is law s edits at tracks many r i valid plain count = let x = place edits 
     total_same f g t zero same = refl
     total_same f g t (suc n) same = both (same t (omega arith)) (total_same f g (suc t) n (λ k lt. same k (omega arith)))
 
-pub block_is : PlainMasterSums → (s : Session) (edits : List Edit) (at : Spot) (tracks : List (List engine.Item)) (many r : ℕ) (sums : List ℤ) → IsValid s → is_plain s ≡ true → length s.tracks.items ≡ many
+pub block_is : PlainMasterSums → (s : Session) (edits : List Edit) (at : PlayPosition) (tracks : List (List engine.Item)) (many r : ℕ) (sums : List ℤ) → IsValid s → is_plain s ≡ true → length s.tracks.items ≡ many
     → AreSums at tracks many s.block sums → map clip sums ≡ mixed_in s edits tracks r (journal.Rolling at.generation at.next)
 block_is law s edits at tracks many r sums valid plain count are = let more : length s.tracks.items < length s.routes.items = valid.formed.limits.master in
     let mine : ℕ → ℕ → ℤ = mixed_at s edits tracks r at.generation at.next in
@@ -179,7 +179,7 @@ zeros_are s block valid plain same = let more : length s.tracks.items < length s
     by_one : (c : ℕ) → c ≡ 1 → block ≡ s.block * c
     by_one c e = sym same ∙ sym (ap (λ n. s.block * n) e ∙ omega arith)
 
-pub rolling_is : (at : Spot) (state : State) (g n : ℕ) → state ≡ Rolling g n → IsAt at state → journal.Rolling at.generation at.next ≡ seen_state state
+pub rolling_is : (at : PlayPosition) (state : State) (g n : ℕ) → state ≡ Rolling g n → IsAt at state → journal.Rolling at.generation at.next ≡ seen_state state
 rolling_is at state g n is rolls = let same : (g ≡ at.generation) × (n ≡ at.next) = subst (IsAt at) is rolls in
     sym (ap seen_state is ∙ ap (λ k. journal.Rolling k n) same.0 ∙ ap (journal.Rolling at.generation) same.1)
 

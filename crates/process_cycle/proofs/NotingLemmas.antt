@@ -13,12 +13,13 @@ use Rattle.disk_ring.specs.Receiver.{Receiver}
 use Rattle.piece_item.specs.declared.item.Item.{Item}
 use Rattle.cycle_journal.specs.declared.note.Note.{Note}
 use Rattle.cycle_journal.specs.declared.entry.State.{State}
-use Rattle.cycle_journal.specs.Seen.{seen_state, seen_note}
-use Rattle.process_cycle.specs.declared.deck.Deck.{Deck}
-use Rattle.process_cycle.specs.declared.spot.Spot.{Spot}
-use Rattle.process_cycle.specs.Hands.{received_kinds}
+use Rattle.cycle_journal.specs.JournalView.{seen_state, seen_note}
+use Rattle.process_cycle.specs.declared.playback.TrackPlayback.{TrackPlayback}
+use Rattle.process_cycle.specs.declared.play_position.PlayPosition.{PlayPosition}
+use Rattle.process_cycle.specs.SpareBoxes.{received_kinds}
 use Rattle.process_cycle.specs.Cycles.{IsHeard, AreHeard, touched_of}
-use Rattle.process_cycle.proofs.HeardLemmas.{ring_of, when, unless}
+use Rattle.play_window.proofs.BoxLemmas.{unless, when}
+use Rattle.process_cycle.proofs.HeardLemmas.{ring_of}
 
 -- ---- one track
 
@@ -68,10 +69,10 @@ settled_less m f g s (xs ∷ tracks) = ap (min (force g s xs)) (settled_less m f
     swap : (a b n : ℕ) → min a (min b n) ≡ min b (min a n)
     swap a b n = omega arith
 
-pub settled_more : (at : Spot) (plays : List (Receiver Item)) (decks : List Deck) (t least n all : ℕ) (d : Deck) → AreHeard at plays decks → t < length decks → d ≡ slice_index_or decks t d
+pub settled_more : (at : PlayPosition) (plays : List (Receiver Item)) (playbacks : List TrackPlayback) (t least n all : ℕ) (d : TrackPlayback) → AreHeard at plays playbacks → t < length playbacks → d ≡ slice_index_or playbacks t d
     → ((r : Receiver Item) → IsHeard at r d → n ≡ force at.generation at.next (received_kinds r))
     → settled_number least at.generation at.next (left plays t) ≡ all → settled_number (min least n) at.generation at.next (left plays (t + 1)) ≡ all
-settled_more at plays decks t least n all d heard lt is told so_far = let r = ring_of at plays decks t d heard lt is in
+settled_more at plays playbacks t least n all d heard lt is told so_far = let r = ring_of at plays playbacks t d heard lt is in
     settled_less least n at.generation at.next (left plays (t + 1)) ∙ ap (λ f. min f (settled_number least at.generation at.next (left plays (t + 1)))) (told r.ring r.heard)
     ∙ sym (ap (settled_number least at.generation at.next) (left_of plays t r.ring r.there)) ∙ so_far
 
@@ -80,10 +81,10 @@ settled_all g s least t all plays le so_far = sym (ap (settled_number least g s)
 
 -- ---- the track that waits
 
-pub waiting_more : (at : Spot) (plays : List (Receiver Item)) (decks : List Deck) (t : ℕ) (there : Bool) (all : Option (ℕ × ℕ)) (d : Deck) → AreHeard at plays decks → t < length decks → d ≡ slice_index_or decks t d
+pub waiting_more : (at : PlayPosition) (plays : List (Receiver Item)) (playbacks : List TrackPlayback) (t : ℕ) (there : Bool) (all : Option (ℕ × ℕ)) (d : TrackPlayback) → AreHeard at plays playbacks → t < length playbacks → d ≡ slice_index_or playbacks t d
     → ((r : Receiver Item) → IsHeard at r d → there ≡ has_piece at.generation 0 (received_kinds r)) → there ≡ true
     → waiting at.generation t (left plays t) ≡ all → waiting at.generation (t + 1) (left plays (t + 1)) ≡ all
-waiting_more at plays decks t there all d heard lt is told found so_far = let r = ring_of at plays decks t d heard lt is in
+waiting_more at plays playbacks t there all d heard lt is told found so_far = let r = ring_of at plays playbacks t d heard lt is in
     ap (λ n. waiting at.generation n (left plays (t + 1))) next
     ∙ sym (when (has_piece at.generation 0 (received_kinds r.ring)) (waiting at.generation (suc t) (left plays (t + 1))) (Some (t, length (received_kinds r.ring))) (sym (told r.ring r.heard) ∙ found))
     ∙ sym (ap (waiting at.generation t) (left_of plays t r.ring r.there)) ∙ so_far
@@ -91,11 +92,11 @@ waiting_more at plays decks t there all d heard lt is told found so_far = let r 
     next : t + 1 ≡ suc t
     next = omega arith
 
-pub waiting_here : (at : Spot) (plays : List (Receiver Item)) (decks : List Deck) (t n : ℕ) (there : Bool) (all : Option (ℕ × ℕ)) (d : Deck) → AreHeard at plays decks → t < length decks → d ≡ slice_index_or decks t d
+pub waiting_here : (at : PlayPosition) (plays : List (Receiver Item)) (playbacks : List TrackPlayback) (t n : ℕ) (there : Bool) (all : Option (ℕ × ℕ)) (d : TrackPlayback) → AreHeard at plays playbacks → t < length playbacks → d ≡ slice_index_or playbacks t d
     → ((r : Receiver Item) → IsHeard at r d → there ≡ has_piece at.generation 0 (received_kinds r)) → there ≡ false
     → ((r : Receiver Item) → IsHeard at r d → n ≡ length (received_kinds r))
     → waiting at.generation t (left plays t) ≡ all → Some (t, n) ≡ all
-waiting_here at plays decks t n there all d heard lt is told missing tail so_far = let r = ring_of at plays decks t d heard lt is in
+waiting_here at plays playbacks t n there all d heard lt is told missing tail so_far = let r = ring_of at plays playbacks t d heard lt is in
     ap (λ k. Some (t, k)) (tail r.ring r.heard)
     ∙ sym (unless (has_piece at.generation 0 (received_kinds r.ring)) (waiting at.generation (suc t) (left plays (t + 1))) (Some (t, length (received_kinds r.ring))) (sym (told r.ring r.heard) ∙ missing))
     ∙ sym (ap (waiting at.generation t) (left_of plays t r.ring r.there)) ∙ so_far
@@ -113,10 +114,10 @@ pub notes_are : (state : journal.State) (tracks : List (List engine.Kind)) → n
 notes_are state [] = refl
 notes_are state (xs ∷ tracks) = ap (λ l. noted state xs ∷ l) (notes_are state tracks)
 
-pub noted_more : (at : Spot) (state : State) (plays : List (Receiver Item)) (decks : List Deck) (t : ℕ) (notes : List Note) (note : Note) (all : List journal.Note) (d : Deck) → AreHeard at plays decks → t < length decks → d ≡ slice_index_or decks t d
+pub noted_more : (at : PlayPosition) (state : State) (plays : List (Receiver Item)) (playbacks : List TrackPlayback) (t : ℕ) (notes : List Note) (note : Note) (all : List journal.Note) (d : TrackPlayback) → AreHeard at plays playbacks → t < length playbacks → d ≡ slice_index_or playbacks t d
     → ((r : Receiver Item) → IsHeard at r d → seen_note note ≡ noted (seen_state state) (received_kinds r))
     → map seen_note notes ++ map (noted (seen_state state)) (left plays t) ≡ all → map seen_note (notes ++ note ∷ []) ++ map (noted (seen_state state)) (left plays (t + 1)) ≡ all
-noted_more at state plays decks t notes note all d heard lt is told so_far = let r = ring_of at plays decks t d heard lt is in let rest = map (noted (seen_state state)) (left plays (t + 1)) in
+noted_more at state plays playbacks t notes note all d heard lt is told so_far = let r = ring_of at plays playbacks t d heard lt is in let rest = map (noted (seen_state state)) (left plays (t + 1)) in
     ap (λ l. l ++ rest) (map-append seen_note notes (note ∷ [])) ∙ append_assoc (map seen_note notes) (seen_note note ∷ []) rest
     ∙ ap (λ n. map seen_note notes ++ n ∷ rest) (told r.ring r.heard)
     ∙ sym (ap (λ l. map seen_note notes ++ map (noted (seen_state state)) l) (left_of plays t r.ring r.there)) ∙ so_far

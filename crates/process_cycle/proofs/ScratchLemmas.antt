@@ -1,14 +1,36 @@
 -- Silence that is written block by block.
-use Rattle.std.proofs.Common.{◌≡◌, ℕ, zero, suc, ◌+◌, ◌-◌, ◌*◌, ◌<◌, ◌≤◌, List, ◌∷◌, ◌++◌, length, refl, ap, ◌∙◌, sym, take, replicate, append_assoc, arith}
-use Rattle.std.specs.Prelude.{Result, Ok, Err, OnErr, pos}
+use Rattle.std.proofs.Common.{◌≡◌, ℕ, zero, suc, ◌+◌, ◌-◌, ◌*◌, ◌<◌, ◌≤◌, List, ◌∷◌, ◌++◌, length, refl, ap, ◌∙◌, sym, subst, take, replicate, append_assoc, arith, rules}
+use Rattle.std.specs.Prelude.{Result, Ok, Err, pos}
 use Rattle.std.proofs.lemmas.List.{length-replicate, replicate-append-replicate, take-replicate}
+use Rattle.std.specs.Result.{IsErr}
+use Rattle.ses_io.specs.Faults.{risen}
+use Rattle.ses_io.specs.Outside.{SinkOutside, Writes}
 use Rattle.ses_io.specs.Streams.{AppendsSome}
 use Rattle.sound_model.specs.Wav.{sound_bytes}
+use Rattle.process_cycle.specs.Cycles.{silence_bytes}
+use Rattle.process_cycle.specs.Made.{done}
 
--- what holds anyway holds at an error
-pub at_error : {A E : Type 0} {P : Type 0} (r : Result A E) → P → OnErr r P
-at_error (Ok a) p = tt
-at_error (Err e) p = p
+-- a fault of a write of one piece, where no write failed before, is a fault of what was to be written
+pub fails_so : {S E F : Type 0} (outside : SinkOutside S) (piece whole : List ℕ) (a b c : S) (e : E) (r : Result (Unit {0}) F) → IsErr r → Writes outside piece b c (Err e) → outside.faults b ≡ outside.faults a
+    → (outside.tells → AppendsSome (outside.held b) (outside.held c) piece → AppendsSome (outside.held a) (outside.held c) whole) → Writes outside whole a c r
+fails_so outside piece whole a b c e (Ok x) is wrote same more = absurd (search rules)
+fails_so outside piece whole a b c e (Err f) is wrote same more = record {
+  all = λ t. tt;
+  front = λ t. more t (wrote.front t);
+  cause = record {
+    later = subst (λ n. n ≤ outside.faults c) same wrote.cause.later;
+    kept = tt;
+    rose = subst (λ n. risen n ≤ outside.faults c) same wrote.cause.rose;
+  };
+}
+
+-- and what was written is so under another name of the error
+pub writes_so : {S E F : Type 0} (outside : SinkOutside S) (piece : List ℕ) (a b : S) → Writes {E = E} outside piece a b (Ok tt) → Writes {E = F} outside piece a b (Ok tt)
+writes_so outside piece a b wrote = record { all = wrote.all; front = λ t. tt; cause = record { later = wrote.cause.later; kept = wrote.cause.kept; rose = tt } }
+
+pub done_so : {A E : Type 0} (r : Result A E) → IsErr r → IsErr (done r)
+done_so (Ok x) is = is
+done_so (Err e) is = refl
 
 one_more : (i n : ℕ) → i * n + n ≡ (i + 1) * n
 one_more i n = omega arith
@@ -42,7 +64,7 @@ zero_bytes : (n : ℕ) → replicate (n * 2) 0 ≡ sound_bytes 16 (replicate n (
 zero_bytes zero = refl
 zero_bytes (suc n) = let two : suc n * 2 ≡ suc (suc (n * 2)) = omega arith in ap (λ k. replicate k 0) two ∙ ap (λ xs. 0 ∷ 0 ∷ xs) (zero_bytes n)
 
-pub silence_is : (blocks n long : ℕ) → long ≡ n * 2 → replicate (blocks * long) 0 ≡ sound_bytes 16 (replicate (blocks * n) (pos 0))
+pub silence_is : (blocks n long : ℕ) → long ≡ n * 2 → replicate (blocks * long) 0 ≡ silence_bytes (blocks * n)
 silence_is blocks n long is = ap (λ k. replicate k 0) (rw is all) ∙ zero_bytes (blocks * n)
   where
     all : blocks * (n * 2) ≡ blocks * n * 2

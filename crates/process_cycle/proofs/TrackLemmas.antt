@@ -8,17 +8,17 @@ use Rattle.piece_item.specs.declared.item.Item.{Item}
 use Rattle.piece_item.specs.Views.{kind_of}
 use Rattle.disk_ring.specs.Receiver.{Receiver}
 use Rattle.play_window.specs.Offers.{Offered, kinds}
-use Rattle.play_window.specs.Seen.{IsWindowOf, IsNoEarlier}
-use Rattle.process_cycle.specs.declared.deck.Hand.{Hand}
-use Rattle.process_cycle.specs.declared.deck.Hand.TheVariants.{Husk, Held, Away}
-use Rattle.process_cycle.specs.declared.deck.Deck.{Deck}
-use Rattle.process_cycle.specs.declared.spot.Spot.{Spot}
+use Rattle.play_window.specs.WindowState.{IsWindowOf, IsNoEarlier}
+use Rattle.process_cycle.specs.declared.playback.SpareBox.{SpareBox}
+use Rattle.process_cycle.specs.declared.playback.SpareBox.TheVariants.{Husk, Held, Lent}
+use Rattle.process_cycle.specs.declared.playback.TrackPlayback.{TrackPlayback}
+use Rattle.process_cycle.specs.declared.play_position.PlayPosition.{PlayPosition}
 use Rattle.process_cycle.specs.Answers.{is_there}
-use Rattle.process_cycle.specs.Hands.{held, HasRoom, offers}
+use Rattle.process_cycle.specs.SpareBoxes.{held, HasRoom, offers}
 use Rattle.process_cycle.specs.Looks.{EndsWith, Looks, offered}
 use Rattle.process_cycle.specs.Playing.{IsPlayed, ShowsOffers}
 
-items_offered : (at : Spot) (taken : List engine.Item) (given : List Offered) → map (λ o. o.item) (offered at taken ++ given) ≡ taken ++ map (λ o. o.item) given
+items_offered : (at : PlayPosition) (taken : List engine.Item) (given : List Offered) → map (λ o. o.item) (offered at taken ++ given) ≡ taken ++ map (λ o. o.item) given
 items_offered at [] given = refl
 items_offered at (x ∷ taken) given = ap (λ l. x ∷ l) (items_offered at taken given)
 
@@ -32,17 +32,17 @@ held_is_not_next depth g n (Piece t h r p) xs some still = grind (arith, some, s
 held_is_not_next depth g n (Settled j h r) xs some still = refl
 held_is_not_next depth g n Blank xs some still = refl
 
-but_held : (at : Spot) (a b : Receiver Item) (hand : Hand) (xs : List engine.Item) → 0 < at.depth → EndsWith at a b hand
-    → has_piece at.generation at.next (map (λ x. x.kind) (held hand ++ xs)) ≡ has_piece at.generation at.next (map (λ x. x.kind) xs)
+but_held : (at : PlayPosition) (a b : Receiver Item) (spare : SpareBox) (xs : List engine.Item) → 0 < at.depth → EndsWith at a b spare
+    → has_piece at.generation at.next (map (λ x. x.kind) (held spare ++ xs)) ≡ has_piece at.generation at.next (map (λ x. x.kind) xs)
 but_held at a b (Husk box) xs some ends = refl
 but_held at a b (Held box) xs some ends = held_is_not_next at.depth at.generation at.next (kind_of box.value.kind) (map (λ x. x.kind) xs) some ends.0
-but_held at a b Away xs some ends = absurd ends
+but_held at a b Lent xs some ends = absurd ends
 
-module _ (at : Spot) (samples : ℕ) (a : Receiver Item) (d : Deck) (b : Receiver Item) (e : Deck) (was : IsPlayed at samples a d) (looks : Looks at a d b e) where
+module _ (at : PlayPosition) (samples : ℕ) (a : Receiver Item) (d : TrackPlayback) (b : Receiver Item) (e : TrackPlayback) (was : IsPlayed at samples a d) (looks : Looks at a d b e) where
   abbrev given_now : List Offered
   given_now = offered at looks.taken ++ was.shows.given
 
-  given_is : map (λ o. o.item) given_now ≡ offers b e.hand
+  given_is : map (λ o. o.item) given_now ≡ offers b e.spare
   given_is = items_offered at looks.taken was.shows.given ∙ ap (λ l. looks.taken ++ l) was.shows.items ∙ sym looks.offers
 
   pub shows_on : ShowsOffers b e
@@ -55,7 +55,7 @@ module _ (at : Spot) (samples : ℕ) (a : Receiver Item) (d : Deck) (b : Receive
     window_depth = looks.depth ∙ was.window_depth;
     room = looks.ring.room ∙ was.room;
     window_room = looks.samples ∙ was.window_room;
-    hand = subst (λ n. HasRoom n e.hand) was.window_room looks.room;
+    spare = subst (λ n. HasRoom n e.spare) was.window_room looks.room;
     until = looks.until;
     last = looks.last;
     shows = shows_on;
@@ -66,17 +66,17 @@ module _ (at : Spot) (samples : ℕ) (a : Receiver Item) (d : Deck) (b : Receive
   pub told_by_all : (there : Bool) → 0 < at.depth → ((given : List Offered) → IsWindowOf given e.window → there ≡ has_piece at.generation at.next (kinds given)) → there ≡ is_there at b
   told_by_all there some shown = shown given_now (looks.window was.shows.given was.shows.window)
       ∙ ap (has_piece at.generation at.next) (kinds_are given_now ∙ ap (map (λ x. x.kind)) given_is)
-      ∙ sym (but_held at a b e.hand (offers b e.hand) some looks.ends)
+      ∙ sym (but_held at a b e.spare (offers b e.spare) some looks.ends)
       ∙ ap (λ xs. has_piece at.generation at.next (map (λ x. x.kind) xs)) (sym looks.last)
 
--- a later spot will do
-pub played_later : (at on : Spot) (samples : ℕ) (a : Receiver Item) (d : Deck) → on.depth ≡ at.depth → IsNoEarlier at.generation at.next on.generation on.next → IsPlayed at samples a d → IsPlayed on samples a d
+-- a later position will do
+pub played_later : (at on : PlayPosition) (samples : ℕ) (a : Receiver Item) (d : TrackPlayback) → on.depth ≡ at.depth → IsNoEarlier at.generation at.next on.generation on.next → IsPlayed at samples a d → IsPlayed on samples a d
 played_later at on samples a d deep later was = record {
   depth = was.depth ∙ sym deep;
   window_depth = was.window_depth ∙ sym deep;
   room = was.room;
   window_room = was.window_room;
-  hand = was.hand;
+  spare = was.spare;
   until = record { generation = omega (arith, was.until.generation, later.generation); block = λ e. omega (arith, was.until.generation, later.generation, was.until.block, later.block, e) };
   last = was.last;
   shows = was.shows;

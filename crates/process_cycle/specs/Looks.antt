@@ -8,42 +8,42 @@ use Rattle.piece_item.specs.declared.item.Item.{Item}
 use Rattle.piece_item.specs.Views.{kind_of}
 use Rattle.disk_ring.specs.Receiver.{Receiver, GoesOnOut}
 use Rattle.play_window.specs.Offers.{Offered}
-use Rattle.play_window.specs.Seen.{Seen, IsWindowOf, IsNoEarlier}
-use Rattle.process_cycle.specs.declared.deck.Hand.{Hand}
-use Rattle.process_cycle.specs.declared.deck.Hand.TheVariants.{Husk, Held, Away}
-use Rattle.process_cycle.specs.declared.deck.Deck.{Deck}
-use Rattle.process_cycle.specs.declared.spot.Spot.{Spot}
-use Rattle.process_cycle.specs.Hands.{held, HasRoom, received_items, offers, HoldsTheLast}
+use Rattle.play_window.specs.WindowState.{WindowState, IsWindowOf, IsNoEarlier}
+use Rattle.process_cycle.specs.declared.playback.SpareBox.{SpareBox}
+use Rattle.process_cycle.specs.declared.playback.SpareBox.TheVariants.{Husk, Held, Lent}
+use Rattle.process_cycle.specs.declared.playback.TrackPlayback.{TrackPlayback}
+use Rattle.process_cycle.specs.declared.play_position.PlayPosition.{PlayPosition}
+use Rattle.process_cycle.specs.SpareBoxes.{held, HasRoom, received_items, offers, HoldsTheLast}
 
 -- the process holds an item of this kind there
-abbrev pub holds : Spot → engine.Kind → Bool
+abbrev pub holds : PlayPosition → engine.Kind → Bool
 holds at k = is_held at.depth at.generation at.next k
 
-abbrev pub holds_none : Spot → List engine.Item → Bool
+abbrev pub holds_none : PlayPosition → List engine.Item → Bool
 holds_none at items = list_all (λ x. not (holds at x.kind)) items
 
 -- these items, as they are offered there
-abbrev pub offered : Spot → List engine.Item → List Offered
+abbrev pub offered : PlayPosition → List engine.Item → List Offered
 offered at items = map (λ x. record { generation = at.generation; next = at.next; item = x }) items
 
 -- how a look ends that finds the ring so and leaves it so: at a held item, and no tail was loaded; or where all was received,
 -- and the tail of that load is noted
-abbrev pub EndsWith : Spot → Receiver Item → Receiver Item → Hand → Type 0
+abbrev pub EndsWith : PlayPosition → Receiver Item → Receiver Item → SpareBox → Type 0
 EndsWith at a b (Husk box) = b.tails ≡ a.tails ++ length b.received ∷ []
 EndsWith at a b (Held box) = (holds at (kind_of box.value.kind) ≡ true) × (b.tails ≡ a.tails)
-EndsWith at a b Away = ⊥
+EndsWith at a b Lent = ⊥
 
 -- where the look ended at the ring's end, all that the end was told of was received
-abbrev pub HasAllTold : Receiver Item → Receiver Item → Hand → Type 0
+abbrev pub HasAllTold : Receiver Item → Receiver Item → SpareBox → Type 0
 HasAllTold a b (Husk box) = IsPrefix a.heard b.received
 HasAllTold a b (Held box) = ⊤
-HasAllTold a b Away = ⊤
+HasAllTold a b Lent = ⊤
 
 -- what was taken of a ring was offered to a window, but for an item that is held
-pub record Offers (at : Spot) (a : Receiver Item) (v : Seen) (b : Receiver Item) (w : Seen) (hand : Hand) : Type 0 where
+pub record Offers (at : PlayPosition) (a : Receiver Item) (v : WindowState) (b : Receiver Item) (w : WindowState) (spare : SpareBox) : Type 0 where
   -- what was offered
   pub taken : List engine.Item
-  pub received : received_items b ≡ held hand ++ (taken ++ received_items a)
+  pub received : received_items b ≡ held spare ++ (taken ++ received_items a)
   -- none of it is held
   pub free : holds_none at taken ≡ true
   -- and of whatever offers it was the window, now it is that of these too
@@ -57,10 +57,10 @@ pub record Offers (at : Spot) (a : Receiver Item) (v : Seen) (b : Receiver Item)
   pub ring : GoesOnOut a b
 
 -- one look of a track
-pub record Looks (at : Spot) (a : Receiver Item) (d : Deck) (b : Receiver Item) (e : Deck) : Type 0 where
+pub record Looks (at : PlayPosition) (a : Receiver Item) (d : TrackPlayback) (b : Receiver Item) (e : TrackPlayback) : Type 0 where
   -- what was offered, newest first
   pub taken : List engine.Item
-  pub offers : offers b e.hand ≡ taken ++ offers a d.hand
+  pub offers : offers b e.spare ≡ taken ++ offers a d.spare
   -- none of it is held
   pub free : holds_none at taken ≡ true
   -- of whatever offers the window was, now it is that of these too
@@ -73,12 +73,12 @@ pub record Looks (at : Spot) (a : Receiver Item) (d : Deck) (b : Receiver Item) 
   -- what no call of a ring changes
   pub ring : GoesOnOut a b
   -- a held item is the last one received
-  pub last : HoldsTheLast b e.hand
+  pub last : HoldsTheLast b e.spare
   -- boxes keep their room
-  pub room : HasRoom d.window.samples e.hand
+  pub room : HasRoom d.window.samples e.spare
   -- the tail that is kept is the number received
   pub tail : e.tail ≡ length b.received
   -- it knows whether the ring has answered Closed
   pub closed : e.closed ≡ b.ended
-  pub ends : EndsWith at a b e.hand
-  pub told : HasAllTold a b e.hand
+  pub ends : EndsWith at a b e.spare
+  pub told : HasAllTold a b e.spare

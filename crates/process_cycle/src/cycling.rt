@@ -43,7 +43,12 @@ pub(crate) fn block_after(state: State, next: u32) -> u32
 /// What is acknowledged after the last entry of a journal.
 pub(crate) fn ack_of(journal: &Journal, generation: u32, next: u32, settled: u32) -> Ack
     requires { length journal.now.items < 2 ^ 32 }
-    ensures { result ≡ record { cycle = length journal.now.items; generation = generation; next = next; settled = settled } }
+    ensures { result ≡ record {
+      cycle = length journal.now.items;
+      generation = generation;
+      next = next;
+      settled = settled;
+    } }
 {
     Ack {
         cycle: journal.entries().len() as u32,

@@ -33,7 +33,8 @@ pub struct TrackRings {
 /// The rings of the tracks, in the order of tracks.
 pub type RingsList = FixedList<TrackRings>;
 
-/// What went wrong in a run: each is set exactly where its object's count rose, but for the last two.
+/// What went wrong in a run: each is set exactly where its object's count rose, but for the last
+/// two.
 #[derive(Clone, Copy, Debug, Default, PartialEq, Eq)]
 pub struct Faults {
     /// A read of the input failed.

@@ -2,18 +2,18 @@
 ghost use Rattle.std.specs.Prelude.{◌≡◌, false, length};
 ghost use Rattle.piece_item.specs.Views.{item_of, kind_of};
 ghost use Rattle.play_window.specs.Answers.{TakesIn};
-ghost use Rattle.play_window.specs.Seen.{IsNoEarlier};
-ghost use Rattle.process_cycle.specs.Hands.{HasRoom};
+ghost use Rattle.play_window.specs.WindowState.{IsNoEarlier};
+ghost use Rattle.process_cycle.specs.SpareBoxes.{HasRoom};
 ghost use Rattle.process_cycle.specs.Looks.{EndsWith, HasAllTold, Offers, holds};
 
-use crate::deck::Hand;
-use crate::spot::Spot;
+use crate::play_position::PlayPosition;
+use crate::playback::SpareBox;
 use disk_ring::{Nothing, RingOut};
 use piece_item::Item;
 use play_window::{Offer, Window};
 
 /// Offers an item that isn't held, and gives the box that the window gives for it.
-pub(crate) fn offer(window: &mut Window, at: Spot, item: Box<Item>) -> Box<Item>
+pub(crate) fn offer(window: &mut Window, at: PlayPosition, item: Box<Item>) -> Box<Item>
     requires depth { window.old.depth ≡ at.depth }
     requires since { IsNoEarlier window.old.generation window.old.next at.generation at.next }
     requires free { holds at (kind_of item.value.kind) ≡ false }
@@ -27,14 +27,14 @@ pub(crate) fn offer(window: &mut Window, at: Spot, item: Box<Item>) -> Box<Item>
     }
 }
 
-/// Takes items and offers each until the ring has no more, or one is held. It gives the box that is then in hand, and whether
-/// the ring has answered Closed.
+/// Takes items and offers each until the ring has no more, or one is held. It gives the box that is
+/// then spare, and whether the ring has answered Closed.
 pub(crate) fn take_all(
     ring: &mut RingOut<Item>,
     window: &mut Window,
-    at: Spot,
+    at: PlayPosition,
     husk: Box<Item>,
-) -> (Hand, bool)
+) -> (SpareBox, bool)
     requires room { ring.old.room ≡ window.old.samples }
     requires depth { window.old.depth ≡ at.depth }
     requires husk { length husk.value.samples.items ≡ window.old.samples }
@@ -50,12 +50,12 @@ pub(crate) fn take_all(
         match ring.take(husk) {
             Ok(item) => {
                 if at.holds(item.kind) {
-                    return (Hand::Held(item), false);
+                    return (SpareBox::Held(item), false);
                 }
                 husk = offer(window, at, item);
             }
-            Err(Nothing::Empty { husk, tail: _ }) => return (Hand::Husk(husk), false),
-            Err(Nothing::Closed { husk, tail: _ }) => return (Hand::Husk(husk), true),
+            Err(Nothing::Empty { husk, tail: _ }) => return (SpareBox::Husk(husk), false),
+            Err(Nothing::Closed { husk, tail: _ }) => return (SpareBox::Husk(husk), true),
         }
     }
 }

@@ -16,7 +16,8 @@ pub(crate) fn meet_all<T: Roomy>(senders: &mut [RingIn<T>], receivers: &mut [Rin
     }
 }
 
-/// Each end that the process has and the butler's end of the same ring tell each other what they know.
+/// Each end that the process has and the butler's end of the same ring tell each other what they
+/// know.
 pub fn meet_ends(ours: &mut ProcessEnds, theirs: &mut ButlerEnds)
     requires { AreOtherEnds ours.old theirs.old }
     ensures { EndsMeet ours.old theirs.old ours.new theirs.new }

@@ -1,27 +1,23 @@
-//! The block of the master in a plain session: the tracks' samples are summed, and written as the bytes of a file.
+//! The block of the master in a plain session: the tracks' samples are summed, and written as the
+//! bytes of a file.
 ghost use Rattle.std.specs.Prelude.{◌≡◌, ℕ, ◌*◌, ◌<◌, ◌≤◌, pos, true, List, length, map, replicate};
 ghost use Rattle.sound_model.specs.Numbers.{clip, sample_bytes};
 ghost use Rattle.sound_model.specs.Wav.{sound_bytes};
-ghost use Rattle.session_model.specs.declared.session.Session.{Session};
-ghost use Rattle.session_model.specs.declared.edit.Edit.{Edit};
-ghost use Rattle.session_model.specs.Valid.{IsValid};
-ghost use Rattle.engine_model.specs.Mixed.{mixed_in, newest_samples};
-ghost use Rattle.engine_model.specs.PlainSession.{is_plain};
+ghost use Rattle.engine_model.specs.Mixed.{newest_samples};
 ghost use Rattle.disk_ring.specs.Receiver.{Receiver};
 ghost use Rattle.piece_item.specs.declared.item.Item.{Item};
-ghost use Rattle.cycle_journal.specs.Seen.{seen_state};
-ghost use Rattle.process_cycle.specs.Hands.{received_items};
-ghost use Rattle.process_cycle.specs.Cycles.{AreAdded, AreHeard, AreNear, AreSums, IsAt, IsHeard};
+ghost use Rattle.process_cycle.specs.SpareBoxes.{received_items};
+ghost use Rattle.process_cycle.specs.Cycles.{AreAdded, AreHeard, AreBoundedSums, AreSums, Heard, IsAt, IsHeard, IsHeardIn, heard_bytes};
 
-use crate::deck::Deck;
-use crate::spot::Spot;
+use crate::play_position::PlayPosition;
+use crate::playback::TrackPlayback;
 use cycle_journal::State;
 use engine_laws::plain_master_sums;
 use ses_units::{Bits, clip, file_sample};
 
 // Adds a sample to each sum, as far as there are samples.
 fn add(sums: &mut [i64], samples: &[i32])
-    requires { AreNear 32 sums.old }
+    requires { AreBoundedSums 32 sums.old }
     ensures { AreAdded sums.old samples.now sums.new }
 {
     let many = samples.len().min(sums.len());
@@ -31,28 +27,28 @@ fn add(sums: &mut [i64], samples: &[i32])
 }
 
 // Adds the block of a track, where it was received.
-fn add_track(sums: &mut [i64], deck: &Deck, at: Spot)
+fn add_track(sums: &mut [i64], playback: &TrackPlayback, at: PlayPosition)
     requires some { 0 < at.depth }
-    requires near { AreNear 32 sums.old }
-    requires shown { (r : Receiver Item) × IsHeard at r deck.now }
-    ensures { (r : Receiver Item) → IsHeard at r deck.now
+    requires near { AreBoundedSums 32 sums.old }
+    requires shown { (r : Receiver Item) × IsHeard at r playback.now }
+    ensures { (r : Receiver Item) → IsHeard at r playback.now
         → AreAdded sums.old (newest_samples at.generation at.next (received_items r)) sums.new }
 {
-    if let Some(piece) = deck.window.piece(at.generation, at.next) {
+    if let Some(piece) = playback.window.piece(at.generation, at.next) {
         add(sums, piece.samples.as_slice());
     }
 }
 
 // Sums the blocks of all tracks.
-fn sum_up(decks: &[Deck], at: Spot, sums: &mut [i64])
-    requires shown { (plays : List (Receiver Item)) × AreHeard at plays decks.now }
-    requires few { length decks.now ≤ 32 }
-    ensures { (plays : List (Receiver Item)) → AreHeard at plays decks.now
-        → AreSums at (map received_items plays) (length plays) (length sums.old) sums.new }
+fn sum_up(playbacks: &[TrackPlayback], at: PlayPosition, sums: &mut [i64])
+    ghost plays: { List (Receiver Item) }
+    requires shown { AreHeard at plays playbacks.now }
+    requires few { length playbacks.now ≤ 32 }
+    ensures { AreSums at (map received_items plays) (length plays) (length sums.old) sums.new }
 {
     sums.fill(0);
-    for deck in decks {
-        add_track(sums, deck, at);
+    for playback in playbacks {
+        add_track(sums, playback, at);
     }
 }
 
@@ -75,26 +71,29 @@ fn write(sums: &[i64], bytes: &mut [u8])
     }
 }
 
-/// The bytes of the master's block, through a buffer of sums: silence unless the state rolls. It takes no memory.
-pub(crate) fn mix(decks: &[Deck], state: State, at: Spot, sums: &mut [i64], bytes: &mut [u8])
-    requires shown { (plays : List (Receiver Item)) × AreHeard at plays decks.now }
-    requires few { length decks.now ≤ 32 }
+/// The bytes of the master's block, through a buffer of sums: silence unless the state rolls. It
+/// takes no memory.
+pub(crate) fn mix(
+    playbacks: &[TrackPlayback],
+    state: State,
+    at: PlayPosition,
+    sums: &mut [i64],
+    bytes: &mut [u8],
+)
+    ghost heard: { Heard }
+    requires heard { IsHeardIn (length sums.old) heard }
+    requires shown { AreHeard at heard.plays playbacks.now }
+    requires few { length playbacks.now ≤ 32 }
     requires rolls { IsAt at state }
     requires room { length bytes.old ≡ length sums.old * 2 }
-    ensures { (plays : List (Receiver Item)) (s : Session) (edits : List Edit)
-        → AreHeard at plays decks.now → IsValid s → is_plain s ≡ true
-        → s.block ≡ length sums.old → length s.tracks.items ≡ length plays → bytes.new ≡ sound_bytes 16
-        (mixed_in s edits (map received_items plays) (length edits) (seen_state state)) }
+    ensures { bytes.new ≡ heard_bytes heard state }
 {
     // Its contract is the law that the sums are proved by.
     plain_master_sums();
     if let State::Rolling { .. } = state {
-        sum_up(decks, at, sums);
+        sum_up(playbacks, at, sums);
     } else {
         sums.fill(0);
     }
     write(sums, bytes);
 }
-
-#[cfg(test)]
-mod tests;

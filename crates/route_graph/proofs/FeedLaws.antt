@@ -14,23 +14,8 @@ use Rattle.session_model.specs.Views.{send_of, route_of, routes_of}
 use Rattle.route_graph.specs.Places.{AreOnce, StartsWith}
 use Rattle.route_graph.specs.Walks.{plain, LinksBelow, ways, waiting}
 use Rattle.route_graph.proofs.GraphLaws.{at-map, length-map, count-send}
-use Rattle.route_graph.proofs.PlaceLaws.{false_is_true}
-use Rattle.route_graph.proofs.WaitLaws.{one_more_done, few_ways, waiting_more}
+use Rattle.route_graph.proofs.WaitLaws.{tally, one_if, none_if, one_more_done, few_ways, waiting_more}
 use Rattle.route_graph.proofs.WalkLaws.{take_get, take_starts, fresh_at}
-
-abbrev tally : Bool → ℕ
-tally b = if b then 1 else 0
-
-one_if : (b : Bool) → b ≡ true → tally b ≡ 1
-one_if true e = refl
-one_if false e = false_is_true e
-
-none_if : (b : Bool) → b ≡ false → tally b ≡ 0
-none_if true e = absurd (nothing e)
-  where
-    nothing : true ≡ false → ⊥
-    nothing h = cc
-none_if false e = refl
 
 -- the links of a session's route, its output and its sends
 ways_of : (q : Route) (t : ℕ) → ways (plain q) t ≡ tally (leads_to t q.target) + count_by (λ x. x.to == t) q.sends.items

@@ -12,14 +12,14 @@ use Rattle.route_graph.proofs.PlaceLaws.{false_is_true, stands-push}
 
 -- ---- the number of ways, and whether there is one
 
-abbrev tally : Bool → ℕ
+abbrev pub tally : Bool → ℕ
 tally b = if b then 1 else 0
 
-one_if : (b : Bool) → b ≡ true → tally b ≡ 1
+pub one_if : (b : Bool) → b ≡ true → tally b ≡ 1
 one_if true e = refl
 one_if false e = false_is_true e
 
-none_if : (b : Bool) → b ≡ false → tally b ≡ 0
+pub none_if : (b : Bool) → b ≡ false → tally b ≡ 0
 none_if true e = absurd (nothing e)
   where
     nothing : true ≡ false → ⊥

@@ -17,6 +17,3 @@ pub use list::Order;
 pub use ordering::order;
 pub use reach::closes;
 pub use refusal::OrderRefusal;
-
-#[cfg(test)]
-mod tests;

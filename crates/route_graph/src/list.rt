@@ -7,7 +7,7 @@ ghost use Rattle.route_graph.specs.Order.{IsOrder};
 use crate::feeders::peeled;
 use crate::places::Places;
 use crate::refusal::OrderRefusal;
-use ses_io::{NoMemory, Twin};
+use ses_io::{NoMemory, TryClone};
 use session_model::Session;
 use std::alloc::Global;
 use std::marker::Model;
@@ -45,8 +45,8 @@ impl Order {
     }
 }
 
-impl Twin for Order {
-    fn twin(&self, alloc: Global) -> Result<Self, NoMemory> {
+impl TryClone for Order {
+    fn try_clone(&self, alloc: Global) -> Result<Self, NoMemory> {
         Ok(Order {
             routes: self.routes.to_vec(alloc)?,
         })

@@ -2,6 +2,7 @@
 pub mod Faults
 pub mod Streams
 pub mod Files
+pub mod Outside
 pub mod Calls
 pub mod Stored
 pub mod Memory

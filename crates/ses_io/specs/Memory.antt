@@ -1,6 +1,6 @@
 -- What contracts see of the objects in memory.
 use Rattle.std.specs.Prelude.{ℕ, Bool, ◌||◌, List, length, Result, Ok, Err}
-use Rattle.ses_io.specs.Calls.{Plan, counted, fails_next}
+use Rattle.ses_io.specs.Calls.{PlannedCalls, counted, fails_next}
 use Rattle.ses_io.specs.Faults.{risen}
 use Rattle.ses_io.specs.Files.{content}
 use Rattle.ses_io.specs.Stored.{StoredFile, FailPlace, files_in, fails_at}
@@ -8,19 +8,19 @@ use Rattle.ses_io.specs.Stored.{StoredFile, FailPlace, files_in, fails_at}
 -- the bytes still to be read, the calls, and how many failed
 pub record SourceState : Type 0 where
   pub left : List ℕ
-  pub plan : Plan
+  pub plan : PlannedCalls
   pub faults : ℕ
 
 -- the bytes that were written, the calls, and how many failed
 pub record SinkState : Type 0 where
   pub held : List ℕ
-  pub plan : Plan
+  pub plan : PlannedCalls
   pub faults : ℕ
 
 -- the files, the calls, the places where reads and writes fail, and how many of each failed
 pub record MediaState : Type 0 where
   pub files : List StoredFile
-  pub plan : Plan
+  pub plan : PlannedCalls
   pub bad_reads : List FailPlace
   pub bad_writes : List FailPlace
   pub read_faults : ℕ

@@ -1,6 +1,6 @@
 //! Which calls of an object in memory fail, by their numbers from 1.
 ghost use Rattle.std.specs.Prelude.{◌≡◌, [], ◌∷◌, ◌++◌, OnOk, OnErr};
-ghost use Rattle.ses_io.specs.Calls.{Plan, counted, fails_next};
+ghost use Rattle.ses_io.specs.Calls.{PlannedCalls, counted, fails_next};
 
 use crate::NoMemory;
 use std::marker::Model;
@@ -13,9 +13,9 @@ pub(crate) struct CallPlan {
 }
 
 impl Model for CallPlan {
-    ghost use Rattle.ses_io.specs.Calls.{Plan};
+    ghost use Rattle.ses_io.specs.Calls.{PlannedCalls};
 
-    ghost Value = { Plan };
+    ghost Value = { PlannedCalls };
 
     ghost view = { λ p. record { calls = p.calls; fails = p.fails.items } };
 }

@@ -57,11 +57,11 @@ impl<R: Files + Drop> FileSink<R> {
 impl<R: Files + Drop> Sink for FileSink<R> {
     ghost use Rattle.std.specs.Prelude.{[]};
 
-    ghost tells = { ⊥ };
-
-    ghost held = { λ _. [] };
-
-    ghost faults = { λ s. s };
+    ghost outside = { record {
+      tells = ⊥;
+      held = λ _. [];
+      faults = λ s. s;
+    } };
 
     fn write(&mut self, bytes: &[u8]) -> Result<usize, Failed> {
         let result = self.write_opened(bytes);

@@ -73,11 +73,11 @@ impl<R: Files + Drop> FileSource<R> {
 impl<R: Files + Drop> Source for FileSource<R> {
     ghost use Rattle.std.specs.Prelude.{[]};
 
-    ghost tells = { ⊥ };
-
-    ghost left = { λ _. [] };
-
-    ghost faults = { λ s. s };
+    ghost outside = { record {
+      tells = ⊥;
+      left = λ _. [];
+      faults = λ s. s;
+    } };
 
     fn read(&mut self, buf: &mut [u8]) -> Result<usize, Failed> {
         let result = self.read_opened(buf);

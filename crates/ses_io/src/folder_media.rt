@@ -135,13 +135,12 @@ where
 {
     ghost use Rattle.std.specs.Prelude.{None};
 
-    ghost tells = { ⊥ };
-
-    ghost files = { λ _ _. None };
-
-    ghost read_faults = { λ m. m.read_faults };
-
-    ghost write_faults = { λ m. m.write_faults };
+    ghost outside = { record {
+      tells = ⊥;
+      files = λ _ _. None;
+      read_faults = λ m. m.read_faults;
+      write_faults = λ m. m.write_faults;
+    } };
 
     fn size(&mut self, name: &str) -> Result<Option<u64>, Failed> {
         let outcome = self.folder.size(name);

@@ -20,7 +20,7 @@ mod shelf;
 mod sink;
 mod source;
 mod tries;
-mod twin;
+mod try_clone;
 mod world;
 mod write_sink;
 
@@ -29,16 +29,13 @@ pub use file_sink::FileSink;
 pub use file_source::FileSource;
 pub use fixed_list::FixedList;
 pub use folder_media::FolderMedia;
-pub use media::Media;
+pub use media::{Media, read_at_full};
 pub use mem_media::MemMedia;
 pub use mem_sink::MemSink;
 pub use mem_source::MemSource;
 pub use read_source::ReadSource;
 pub use sink::{Sink, write_all};
 pub use source::{Source, read_full};
-pub use twin::Twin;
+pub use try_clone::TryClone;
 pub use world::World;
 pub use write_sink::WriteSink;
-
-#[cfg(test)]
-mod tests;

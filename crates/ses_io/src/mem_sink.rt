@@ -49,11 +49,11 @@ impl MemSink {
 impl Sink for MemSink {
     ghost use Rattle.std.specs.Prelude.{⊤};
 
-    ghost tells = { ⊤ };
-
-    ghost held = { λ s. s.held };
-
-    ghost faults = { λ s. s.faults };
+    ghost outside = { record {
+      tells = ⊤;
+      held = λ s. s.held;
+      faults = λ s. s.faults;
+    } };
 
     /// Takes the whole piece. At a listed call, and where it finds no memory to grow, it takes
     /// nothing, and both are faults.

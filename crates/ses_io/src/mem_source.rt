@@ -52,11 +52,11 @@ impl MemSource {
 impl Source for MemSource {
     ghost use Rattle.std.specs.Prelude.{⊤};
 
-    ghost tells = { ⊤ };
-
-    ghost left = { λ s. s.left };
-
-    ghost faults = { λ s. s.faults };
+    ghost outside = { record {
+      tells = ⊤;
+      left = λ s. s.left;
+      faults = λ s. s.faults;
+    } };
 
     /// Reads as much as the buffer takes. At a listed call nothing is read.
     fn read(&mut self, buf: &mut [u8]) -> Result<usize, Failed>

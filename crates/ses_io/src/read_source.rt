@@ -31,11 +31,11 @@ impl<T> ReadSource<T> {
 impl<T: Read + Drop> Source for ReadSource<T> {
     ghost use Rattle.std.specs.Prelude.{[]};
 
-    ghost tells = { ⊥ };
-
-    ghost left = { λ _. [] };
-
-    ghost faults = { λ s. s };
+    ghost outside = { record {
+      tells = ⊥;
+      left = λ _. [];
+      faults = λ s. s;
+    } };
 
     fn read(&mut self, buf: &mut [u8]) -> Result<usize, Failed> {
         let result = tries::read(&mut self.reader, buf);

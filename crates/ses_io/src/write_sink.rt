@@ -32,11 +32,11 @@ impl<T> WriteSink<T> {
 impl<T: Write + Drop> Sink for WriteSink<T> {
     ghost use Rattle.std.specs.Prelude.{[]};
 
-    ghost tells = { ⊥ };
-
-    ghost held = { λ _. [] };
-
-    ghost faults = { λ s. s };
+    ghost outside = { record {
+      tells = ⊥;
+      held = λ _. [];
+      faults = λ s. s;
+    } };
 
     fn write(&mut self, bytes: &[u8]) -> Result<usize, Failed> {
         let result = tries::write(&mut self.writer, bytes);

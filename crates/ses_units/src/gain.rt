@@ -1,6 +1,7 @@
 //! A gain in 16.16 fixed point: 65,536 is unity, and 262,144 is the loudest.
 ghost use Rattle.std.specs.Prelude.{◌≡◌, ℕ, ◌≤◌, ◌<◌, ◌↔◌, IfOk, IsErr};
 
+use crate::limits::LOUDEST;
 use std::marker::Model;
 use thiserror::Error;
 
@@ -34,7 +35,7 @@ impl Gain {
         ensures value { IfOk result (λ gain. gain ≡ n) }
         ensures loud { IsErr result ↔ (262144 < n) }
     {
-        if n <= 262_144 {
+        if n <= LOUDEST {
             Ok(Gain { number: n })
         } else {
             Err(TooLoud)

@@ -6,17 +6,12 @@ ghost use Rattle.ses_units.specs.Point.{point_of, points_of};
 ghost use Rattle.ses_units.specs.Refusal.{IsBroken, first_refusal, refusal_of};
 ghost use Rattle.ses_units.specs.Lane.{IsLane, PartsAt, with_point, without_point, gain_standing, ChangesGain};
 
+use crate::limits::POINTS;
 use crate::point::Point;
 use crate::refusal::{LaneRefusal, first_refusal};
 use std::alloc::{AllocError, Global};
 use std::marker::Model;
 use thiserror::Error;
-
-/// How many points a lane has room for.
-pub(crate) const MOST: usize = 1024;
-
-/// Points stand before this place, in frames.
-pub(crate) const END: u64 = 1 << 40;
 
 /// The points that a line of gains passes through. Contracts see their list.
 #[derive(Debug, Drop)]
@@ -54,7 +49,7 @@ fn with_room(alloc: Global, points: &[Point]) -> Result<Vec<Point>, AllocError>
     ensures capacity { IfOk result (λ room. 1024 ≤ vec_capacity room) }
     ensures quiet { OnOk result (All (λ p. p.gain ≤ 262144) points.now) }
 {
-    let mut room = Vec::with_capacity(alloc, MOST)?;
+    let mut room = Vec::with_capacity(alloc, POINTS)?;
     for p in points {
         let _number = p.gain.value();
         room.push(*p).unwrap();
@@ -127,7 +122,7 @@ impl Lane {
         match index_of(&self.points, p.at) {
             Ok(i) => self.points[i] = p,
             Err(i) => {
-                if self.points.len() == MOST {
+                if self.points.len() == POINTS {
                     return Err(LaneFull);
                 }
                 self.points.insert(i, p).unwrap();

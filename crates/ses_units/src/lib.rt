@@ -4,13 +4,12 @@
 mod bits;
 mod gain;
 mod lane;
+pub mod limits;
 mod mode;
 mod name;
 mod number;
 mod point;
 mod refusal;
-#[cfg(test)]
-mod tests;
 
 pub use bits::Bits;
 pub use gain::{Gain, TooLoud};

@@ -3,7 +3,7 @@ ghost use Rattle.std.specs.Prelude.{◌≡◌, ◌<◌, length, IfSome};
 ghost use Rattle.ses_units.specs.Point.{points_of};
 ghost use Rattle.ses_units.specs.Refusal.{first_far, first_fall, first_refusal};
 
-use crate::lane::{END, MOST};
+use crate::limits::{END, POINTS};
 use crate::point::Point;
 use thiserror::Error;
 
@@ -50,7 +50,7 @@ fn first_fall(points: &[Point]) -> Option<usize>
 pub(crate) fn first_refusal(points: &[Point]) -> Option<LaneRefusal>
     ensures { result ≡ first_refusal (points_of points.now) }
 {
-    if points.len() > MOST {
+    if points.len() > POINTS {
         let many = points.len().min(u32::MAX as usize);
         return Some(LaneRefusal::TooMany(many as u32));
     }

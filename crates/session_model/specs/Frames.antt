@@ -23,3 +23,14 @@ interleaved sound channels from n = map (λ k. sound (from + k / channels) (k % 
 pub record IsSample (v : ℤ) : Type 0 where
   pub low : neg_ℤ (pos 8388608) ≤ℤ v
   pub high : v ≤ℤ pos 8388607
+
+-- what sources tell of themselves
+pub record FramesOutside (S : Type 0) : Type 1 where
+  -- whether the frames are known: ⊤ in memory, ⊥ for real files
+  pub tells : Type 0
+  -- the channels of each source, always told
+  pub channels : S → List ℕ
+  -- the frames of each source
+  pub frames : S → List Told
+  -- how many calls failed; it stands still at its type's end
+  pub faults : S → ℕ

@@ -1,7 +1,7 @@
 -- What contracts see of sources in memory.
 use Rattle.std.specs.Prelude.{ℕ, ◌*◌, ◌/◌, ◌%◌, Bool, ◌&&◌, ◌==◌, nat_le, ℤ, pos, neg_ℤ, int_le, List, length, take, drop, map}
 use Rattle.std.specs.List.{list_all, range_with_len}
-use Rattle.ses_io.specs.Calls.{Plan}
+use Rattle.ses_io.specs.Calls.{PlannedCalls}
 use Rattle.session_model.specs.Frames.{Told}
 
 -- how many channels, and the samples frame by frame
@@ -12,7 +12,7 @@ pub record Sound : Type 0 where
 -- the sources, the calls, and how many failed
 pub record FramesState : Type 0 where
   pub sources : List Sound
-  pub plan : Plan
+  pub plan : PlannedCalls
   pub faults : ℕ
 
 abbrev pub channels_in : List Sound → List ℕ

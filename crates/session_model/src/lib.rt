@@ -16,7 +16,7 @@ mod region;
 mod route;
 mod session;
 mod track;
-mod twin;
+mod try_clone;
 
 pub use edit::Edit;
 pub use file_name::{FileName, FileNameRefusal, is_file_name};
@@ -32,6 +32,3 @@ pub use region::Region;
 pub use route::{Route, RouteKind, SendLink};
 pub use session::{Session, SourceDecl};
 pub use track::Track;
-
-#[cfg(test)]
-mod tests;

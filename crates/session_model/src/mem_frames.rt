@@ -20,12 +20,12 @@ pub struct MemFrames {
 }
 
 impl Model for MemFrames {
-    ghost use Rattle.ses_io.specs.Calls.{Plan};
+    ghost use Rattle.ses_io.specs.Calls.{PlannedCalls};
     ghost use Rattle.session_model.specs.MemFrames.{FramesState};
 
     ghost Value = { FramesState };
 
-    ghost view = { λ m. let plan : Plan = record { calls = m.calls; fails = m.fails.items } in
+    ghost view = { λ m. let plan : PlannedCalls = record { calls = m.calls; fails = m.fails.items } in
         record { sources = m.sources.items; plan = plan; faults = m.faults } };
 }
 
@@ -49,13 +49,12 @@ impl Frames for MemFrames {
     ghost use Rattle.std.specs.Prelude.{⊤};
     ghost use Rattle.session_model.specs.MemFrames.{channels_in, told_in};
 
-    ghost tells = { ⊤ };
-
-    ghost channels = { λ m. channels_in m.sources };
-
-    ghost frames_told = { λ m. told_in m.sources };
-
-    ghost faults = { λ m. m.faults };
+    ghost outside = { record {
+      tells = ⊤;
+      channels = λ m. channels_in m.sources;
+      frames = λ m. told_in m.sources;
+      faults = λ m. m.faults;
+    } };
 
     /// At a listed call nothing is written.
     fn frames(&mut self, source: u32, from: u64, out: &mut [i32]) -> Result<(), Failed>

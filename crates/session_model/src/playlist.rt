@@ -8,12 +8,10 @@ ghost use Rattle.session_model.specs.Playlist.{IsPlaylist, has_id, has_region, w
 
 use crate::places::{any_has, index_of, place_of, put_at_end, put_last_at};
 use crate::region::Region;
-use ses_io::{FixedList, NoMemory, Twin};
+use ses_io::{FixedList, NoMemory, TryClone};
+use ses_units::limits::REGIONS;
 use std::alloc::Global;
 use std::marker::Model;
-
-/// How many regions a playlist has room for.
-const MOST: u32 = 256;
 
 /// The regions of a track, the lowest first (own). Contracts see their list.
 #[derive(Drop)]
@@ -40,7 +38,7 @@ impl Playlist {
         ensures { IfOk result (λ p. p ≡ []) }
     {
         Ok(Playlist {
-            list: FixedList::new(alloc, MOST)?,
+            list: FixedList::new(alloc, REGIONS)?,
         })
     }
 
@@ -96,7 +94,7 @@ impl Playlist {
         ensures full { IsTrue result ↔ (length self.now ≡ 256) }
         ensures few { length self.now ≤ 256 }
     {
-        self.len() == MOST as usize
+        self.len() == REGIONS as usize
     }
 
     /// Whether a region has that id.
@@ -107,10 +105,10 @@ impl Playlist {
     }
 }
 
-impl Twin for Playlist {
-    fn twin(&self, alloc: Global) -> Result<Self, NoMemory> {
+impl TryClone for Playlist {
+    fn try_clone(&self, alloc: Global) -> Result<Self, NoMemory> {
         Ok(Playlist {
-            list: self.list.twin(alloc)?,
+            list: self.list.try_clone(alloc)?,
         })
     }
 }

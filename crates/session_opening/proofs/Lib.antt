@@ -1,5 +1,5 @@
 -- Lemmas of the opening.
 pub mod WordsLaws
 pub mod SourceLaws
-pub mod OpenedLaws
-mod OpenedVectors
+pub mod PlanLaws
+mod PlanVectors

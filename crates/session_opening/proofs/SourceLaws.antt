@@ -16,7 +16,7 @@ use Rattle.audio_source.specs.Refusals.{SourceRefusal, source_head, why_of}
 use Rattle.session_opening.specs.declared.unopened.Unopened.{Unopened}
 use Rattle.session_opening.specs.Answers.{Refuses, refusal_at, refusal_of}
 use Rattle.session_opening.specs.Laws.{IsFirst}
-use Rattle.session_opening.specs.Opened.{◌>>=◌, Open, SourceRefused, found, source_in, sources_in}
+use Rattle.session_opening.specs.Plan.{◌>>=◌, Open, SourceRefused, found, source_in, sources_in}
 
 -- the file of a source has a head
 abbrev HasHead : Files → ℕ → SourceDecl → Type 0
@@ -41,11 +41,11 @@ all_found files rate (d ∷ ds) ok = one_ok files rate d ds (ok zero d refl) ∙
 is_ok : (r : Result Head SourceRefusal) (h : Head) → r ≡ Ok h → IsOk r
 is_ok r h e = let K : Result Head SourceRefusal → Type 0 = λ s. IsOk s in subst K (sym e) (search rules)
 
-pub opened_found : (files : Files) (rate : ℕ) (list : List SourceDecl) (opened : List audio.Opened) → IsOpened files rate list opened → sources_in files rate list ≡ Ok tt
-opened_found files rate list opened is = all_found files rate list (λ i d at. head i d at (slice_get_cases opened i).1)
+pub plan_found : (files : Files) (rate : ℕ) (list : List SourceDecl) (opened : List audio.OpenedSource) → IsOpened files rate list opened → sources_in files rate list ≡ Ok tt
+plan_found files rate list opened is = all_found files rate list (λ i d at. head i d at (slice_get_cases opened i).1)
   where
     head : (i : ℕ) (d : SourceDecl) → slice_get list i ≡ Some d →
-        ((o : audio.Opened) × (i < length opened) × (slice_get opened i ≡ Some o) × (get_or opened i o ≡ o)) ⊎ ((length opened ≤ i) × (slice_get opened i ≡ None)) → HasHead files rate d
+        ((o : audio.OpenedSource) × (i < length opened) × (slice_get opened i ≡ Some o) × (get_or opened i o ≡ o)) ⊎ ((length opened ≤ i) × (slice_get opened i ≡ None)) → HasHead files rate d
     head i d at (inl w) = is_ok (source_head rate d.channels (files d.file)) w.0.head (is.each i d w.0 at w.2).head
     head i d at (inr w) = absurd (omega (arith, slice_get_within list i d at, w.0, is.many))
 

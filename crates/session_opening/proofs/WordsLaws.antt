@@ -1,50 +1,79 @@
--- Words that aren't three around a marker are no three words.
-use Rattle.std.proofs.Common.{◌≡◌, ℕ, suc, ◌≤◌, ◌≢◌, get_or, Bool, true, false, cond, refl, arith, List, [], ◌∷◌, length, Option, Some, None, codes, bytes_eq}
+-- The positional words, word by word.
+use Rattle.std.proofs.Common.{◌≡◌, ◌≤◌, ◌∙◌, ℕ, Bool, true, false, refl, sym, ap, arith, List, [], ◌∷◌, ◌++◌, append_assoc, map, drop, get_or, length, Option, Some, None, codes, bytes_eq}
+use Rattle.std.specs.Borrow.{Bor}
+use Rattle.std.proofs.lemmas.List.{drop_all}
 use Rattle.std.specs.Option.{option_map}
-use Rattle.session_opening.specs.Words.{is_option, positional, three}
+use Rattle.session_opening.specs.declared.words.Positionals as code_words
+use Rattle.session_opening.specs.Spoken.{words_with}
+use Rattle.session_opening.specs.Words.{is_option, positional, three, words_after}
 
--- as many as the words, or one fewer
-abbrev Near : ℕ → Option (List (List ℕ)) → Type 0
-Near n None = Unit {0}
-Near n (Some ws) = (length ws ≤ n) × (n ≤ suc (length ws))
-
-near_more : (n : ℕ) (w : List ℕ) (o : Option (List (List ℕ))) → Near n o → Near (suc n) (option_map (λ rest. w ∷ rest) o)
-near_more n w None h = tt
-near_more n w (Some ws) h = (omega (arith, h.0), omega (arith, h.1))
-
-near_by : (a b : Bool) (n : ℕ) (x y z : Option (List (List ℕ))) → Near n x → Near n y → Near n z → Near n (cond a x (cond b y z))
-near_by true b n x y z h g k = h
-near_by false true n x y z h g k = g
-near_by false false n x y z h g k = k
-
-near : (ws : List (List ℕ)) → Near (length ws) (positional ws)
+-- the marker
+pub marker_seen : (found rest : List (List ℕ)) (w : List ℕ) → bytes_eq w (codes "--") ≡ true → three (words_after false found (w ∷ rest)) ≡ three (words_after true found rest)
 unfolding positional
-near [] = (omega arith, omega arith)
-near (w ∷ ws) = near_by (bytes_eq w (codes "--")) (is_option w) (suc (length ws)) (Some ws) None (option_map (λ rest. w ∷ rest) (positional ws))
-    (omega arith, omega arith) tt (near_more (length ws) w (positional ws) (near ws))
+marker_seen found rest w is = rw is refl
 
-three_only : (n : ℕ) (o : Option (List (List ℕ))) → Near n o → n ≢ 3 → n ≢ 4 → three o ≡ None
-three_only n None h f g = refl
-three_only n (Some []) h f g = refl
-three_only n (Some (a ∷ [])) h f g = refl
-three_only n (Some (a ∷ b ∷ [])) h f g = refl
-three_only n (Some (a ∷ b ∷ c ∷ [])) h f g = absurd (omega (arith, h.0, h.1))
-three_only n (Some (a ∷ b ∷ c ∷ d ∷ ws)) h f g = refl
+-- an option
+pub option_seen : (found rest : List (List ℕ)) (w : List ℕ) → bytes_eq w (codes "--") ≡ false → is_option w ≡ true → three (words_after false found (w ∷ rest)) ≡ None
+unfolding positional
+option_seen found rest w unmarked is = rw (unmarked, is) refl
 
-pub other_lengths : (ws : List (List ℕ)) → length ws ≢ 3 → length ws ≢ 4 → three (positional ws) ≡ None
-other_lengths ws f g = three_only (length ws) (positional ws) (near ws) f g
+one_more : (found : List (List ℕ)) (w : List ℕ) (o : Option (List (List ℕ))) →
+    option_map (λ later. found ++ later) (option_map (λ later. w ∷ later) o) ≡ option_map (λ later. (found ++ w ∷ []) ++ later) o
+one_more found w None = refl
+one_more found w (Some later) = ap (λ ws. Some ws) (sym (append_assoc found (w ∷ []) later))
 
-pub list_of_3 : {A : Type 0} (xs : List A) (d e f : A) → length xs ≡ 3 → xs ≡ get_or xs 0 d ∷ get_or xs 1 e ∷ get_or xs 2 f ∷ []
-list_of_3 [] d e f h = absurd (omega arith)
-list_of_3 (a ∷ []) d e f h = absurd (omega arith)
-list_of_3 (a ∷ b ∷ []) d e f h = absurd (omega arith)
-list_of_3 (a ∷ b ∷ c ∷ []) d e f h = refl
-list_of_3 (a ∷ b ∷ c ∷ x ∷ xs) d e f h = absurd (omega arith)
+-- a positional word
+pub word_seen : (marked : Bool) (found rest : List (List ℕ)) (w : List ℕ) → (marked ≡ false → bytes_eq w (codes "--") ≡ false) → (marked ≡ false → is_option w ≡ false) →
+    three (words_after marked found (w ∷ rest)) ≡ three (words_after marked (found ++ w ∷ []) rest)
+unfolding positional
+word_seen true found rest w unmarked word_is = ap (λ ws. three (Some ws)) (sym (append_assoc found (w ∷ []) rest))
+word_seen false found rest w unmarked word_is = rw (unmarked refl, word_is refl) (ap three (one_more found w (positional rest)))
 
-pub list_of_4 : {A : Type 0} (xs : List A) (d e f g : A) → length xs ≡ 4 → xs ≡ get_or xs 0 d ∷ get_or xs 1 e ∷ get_or xs 2 f ∷ get_or xs 3 g ∷ []
-list_of_4 [] d e f g h = absurd (omega arith)
-list_of_4 (a ∷ []) d e f g h = absurd (omega arith)
-list_of_4 (a ∷ b ∷ []) d e f g h = absurd (omega arith)
-list_of_4 (a ∷ b ∷ c ∷ []) d e f g h = absurd (omega arith)
-list_of_4 (a ∷ b ∷ c ∷ x ∷ []) d e f g h = refl
-list_of_4 (a ∷ b ∷ c ∷ x ∷ y ∷ xs) d e f g h = absurd (omega arith)
+four : (found : List (List ℕ)) (w : List ℕ) (later : List (List ℕ)) → length found ≡ 3 → three (Some (found ++ w ∷ later)) ≡ None
+four [] w later h = absurd (omega arith)
+four (a ∷ []) w later h = absurd (omega arith)
+four (a ∷ b ∷ []) w later h = absurd (omega arith)
+four (a ∷ b ∷ c ∷ []) w later h = refl
+four (a ∷ b ∷ c ∷ d ∷ ws) w later h = absurd (omega arith)
+
+four_or_none : (found : List (List ℕ)) (w : List ℕ) (o : Option (List (List ℕ))) → length found ≡ 3 → three (option_map (λ later. found ++ later) (option_map (λ later. w ∷ later) o)) ≡ None
+four_or_none found w None h = refl
+four_or_none found w (Some later) h = four found w later h
+
+-- a fourth one
+pub fourth_seen : (marked : Bool) (found rest : List (List ℕ)) (w : List ℕ) → length found ≡ 3 → (marked ≡ false → bytes_eq w (codes "--") ≡ false) → (marked ≡ false → is_option w ≡ false) →
+    three (words_after marked found (w ∷ rest)) ≡ None
+unfolding positional
+fourth_seen true found rest w h unmarked word_is = four found w rest h
+fourth_seen false found rest w h unmarked word_is = rw (unmarked refl, word_is refl) (four_or_none found w (positional rest) h)
+
+append_none : (xs : List (List ℕ)) → xs ++ [] ≡ xs
+append_none [] = refl
+append_none (x ∷ xs) = ap (λ ys. x ∷ ys) (append_none xs)
+
+-- no word is left
+pub all_seen : (marked : Bool) (found : List (List ℕ)) → three (words_after marked found []) ≡ three (Some found)
+unfolding positional
+all_seen true found = ap (λ ws. three (Some ws)) (append_none found)
+all_seen false found = ap (λ ws. three (Some ws)) (append_none found)
+
+-- three words are three, and others aren't
+pub not_three : (found : List (List ℕ)) → (length found ≡ 3 → ⊥) → three (Some found) ≡ None
+not_three [] unmarked = refl
+not_three (a ∷ []) unmarked = refl
+not_three (a ∷ b ∷ []) unmarked = refl
+not_three (a ∷ b ∷ c ∷ []) unmarked = absurd (unmarked (omega arith))
+not_three (a ∷ b ∷ c ∷ d ∷ ws) unmarked = refl
+
+pub three_seen : (words : List (Bor (List ℕ))) (d : Bor (List ℕ)) → length words ≡ 3 →
+    Some ((get_or words 0 d).now ∷ (get_or words 1 d).now ∷ (get_or words 2 d).now ∷ []) ≡ three (Some (map (λ w. w.now) words))
+three_seen [] d h = absurd (omega arith)
+three_seen (a ∷ []) d h = absurd (omega arith)
+three_seen (a ∷ b ∷ []) d h = absurd (omega arith)
+three_seen (a ∷ b ∷ c ∷ []) d h = refl
+three_seen (a ∷ b ∷ c ∷ e ∷ ws) d h = absurd (omega arith)
+
+-- the loop is over: these are all of them
+pub over : (all : code_words.Positionals) (words : List (Bor (List ℕ))) (i : ℕ) → length words ≤ i → three (positional (map (λ w. w.now) words)) ≡ three (words_with all (map (λ w. w.now) (drop i words))) →
+    three (positional (map (λ w. w.now) words)) ≡ three (Some (map (λ w. w.now) all.found.items))
+over all words i past is = is ∙ ap (λ ws. three (words_with all (map (λ w. w.now) ws))) (drop_all i words past) ∙ all_seen all.marked (map (λ w. w.now) all.found.items)

@@ -5,28 +5,28 @@ use Rattle.ses_io.specs.Files.{Files}
 use Rattle.session_model.specs.declared.session.SourceDecl.{SourceDecl}
 use Rattle.session_model.specs.Valid.{IsValid}
 use Rattle.engine_model.specs.PlainSession.{is_plain}
-use Rattle.edition_log.specs.Seen.{IsEditionOf}
+use Rattle.edition_log.specs.EditionState.{IsEditionOf}
 use Rattle.session_walk.specs.declared.fault.SessionFault.{SessionFault}
 use Rattle.session_walk.specs.declared.fault.SessionFault.TheVariants as fault
 use Rattle.audio_source.specs.declared.refusal.FileRefusal.{FileRefusal}
 use Rattle.audio_source.specs.Opened.{IsListed, IsOpened}
 use Rattle.audio_source.specs.Refusals.{why_of}
-use Rattle.session_opening.specs.declared.opening.Opening.{Opening}
+use Rattle.session_opening.specs.declared.loading.Loaded.{Loaded}
 use Rattle.session_opening.specs.declared.unopened.Unopened.{Unopened}
 use Rattle.session_opening.specs.declared.unopened.Unopened.TheVariants.{Session, NotBuilt, Source, ReadFault, NoMemory}
 use Rattle.session_opening.specs.declared.reading.Unread.{Unread}
 use Rattle.session_opening.specs.declared.reading.Unread.TheVariants as unread
-use Rattle.session_opening.specs.Opened as opened
-use Rattle.session_opening.specs.Opened.{Open, Opened}
+use Rattle.session_opening.specs.Plan as wrong
+use Rattle.session_opening.specs.Plan.{Open, Plan}
 use Rattle.session_opening.specs.Words.{Export}
 
 -- ---- exactly what is opened
 
 -- a failed read, and want of memory, say nothing of it
 abbrev pub Refuses : {A : Type 0} → Open A → Unopened → Type 0
-Refuses given (Session refusal) = given ≡ Err (opened.SessionRefused refusal)
-Refuses given NotBuilt = given ≡ Err opened.NotBuilt
-Refuses given (Source name why) = given ≡ Err (opened.SourceRefused name (why_of why))
+Refuses given (Session refusal) = given ≡ Err (wrong.SessionRefused refusal)
+Refuses given NotBuilt = given ≡ Err wrong.NotBuilt
+Refuses given (Source name why) = given ≡ Err (wrong.SourceRefused name (why_of why))
 Refuses given ReadFault = Unit {0}
 Refuses given NoMemory = Unit {0}
 
@@ -36,13 +36,13 @@ Gives view given (Ok b) = given ≡ Ok (view b)
 Gives view given (Err why) = Refuses given why
 
 -- an opening of an export, as the definition has it
-abbrev pub opened_of : Export → Opening → Opened
-opened_of e o = record { session = o.edition.session; from = e.from; cycles = e.cycles }
+abbrev pub plan_from : Export → Loaded → Plan
+plan_from e o = record { session = o.edition.session; from = e.from; cycles = e.cycles }
 
 -- ---- what is opened, for every media
 
 -- Edition 0 of a session that the engine plays, and its sources as they were declared.
-pub record IsPlayed (o : Opening) : Type 0 where
+pub record IsLoaded (o : Loaded) : Type 0 where
   -- the state of its session before any edit
   pub edition : IsEditionOf o.edition.session o.edition
   pub edits : o.edition.edits ≡ []
@@ -55,7 +55,7 @@ pub record IsPlayed (o : Opening) : Type 0 where
   pub listed : IsListed o.edition.session.rate o.edition.session.sources.items o.sources
 
 -- each source has the head of its file
-abbrev pub HasHeads : Files → Opening → Type 0
+abbrev pub HasHeads : Files → Loaded → Type 0
 HasHeads files o = IsOpened files o.edition.session.rate o.edition.session.sources.items o.sources
 
 -- ---- refusals

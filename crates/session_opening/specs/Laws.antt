@@ -6,11 +6,11 @@ use Rattle.session_model.specs.declared.session.SourceDecl.{SourceDecl}
 use Rattle.session_model.specs.Valid.{IsValid}
 use Rattle.engine_model.specs.PlainSession.{is_plain}
 use Rattle.audio_source.specs.Refusals.{SourceRefusal, source_head}
-use Rattle.session_opening.specs.Opened.{Opened, SourceRefused, opened, session_in}
+use Rattle.session_opening.specs.Plan.{Plan, SourceRefused, plan_of_export, session_in}
 use Rattle.session_opening.specs.Words.{Export}
 
 -- What can be played: the session of the export's file, which is valid and plain, and each source's file has its head.
-pub record IsPlayable (files : Files) (e : Export) (o : Opened) : Type 0 where
+pub record IsPlayable (files : Files) (e : Export) (o : Plan) : Type 0 where
   pub session : session_in (files e.session) ≡ Ok o.session
   pub from : o.from ≡ e.from
   pub cycles : o.cycles ≡ e.cycles
@@ -19,8 +19,8 @@ pub record IsPlayable (files : Files) (e : Export) (o : Opened) : Type 0 where
   pub heads : (i : ℕ) (d : SourceDecl) → slice_get o.session.sources.items i ≡ Some d → IsOk (source_head o.session.rate d.channels (files d.file))
 
 -- what is opened can be played
-abbrev pub OpenedIsPlayable : Type 0
-OpenedIsPlayable = (files : Files) (e : Export) (o : Opened) → opened files e ≡ Ok o → IsPlayable files e o
+abbrev pub PlanIsPlayable : Type 0
+PlanIsPlayable = (files : Files) (e : Export) (o : Plan) → plan_of_export files e ≡ Ok o → IsPlayable files e o
 
 -- The source at this place has this name, it isn't opened for this reason, and all before it are.
 pub record IsFirst (files : Files) (rate : ℕ) (list : List SourceDecl) (called : List ℕ) (why : SourceRefusal) (place : ℕ) (d : SourceDecl) : Type 0 where
@@ -38,5 +38,5 @@ pub record FirstOf (files : Files) (e : Export) (name : List ℕ) (why : SourceR
 
 -- a source is refused only of a session that is valid and plain, and it is the first
 abbrev pub RefusedIsFirst : Type 0
-RefusedIsFirst = (files : Files) (e : Export) (name : List ℕ) (why : SourceRefusal) → opened files e ≡ Err (SourceRefused name why) →
+RefusedIsFirst = (files : Files) (e : Export) (name : List ℕ) (why : SourceRefusal) → plan_of_export files e ≡ Err (SourceRefused name why) →
     (s : Session) × FirstOf files e name why s

@@ -2,6 +2,6 @@
 pub mod Words
 pub mod Spoken
 pub mod Causes
-pub mod Opened
+pub mod Plan
 pub mod Answers
 pub mod Laws

@@ -1,5 +1,5 @@
 -- What the words of the command line mean (own). Words are lists of bytes.
-use Rattle.std.specs.Prelude.{ℕ, ◌+◌, ◌-◌, ◌*◌, Bool, false, ◌&&◌, ◌==◌, nat_le, if◌then◌else◌, List, [], ◌∷◌, length, Option, Some, None, codes, bytes_eq}
+use Rattle.std.specs.Prelude.{ℕ, ◌+◌, ◌-◌, ◌*◌, Bool, false, ◌&&◌, ◌==◌, nat_le, if◌then◌else◌, List, [], ◌∷◌, ◌++◌, length, Option, Some, None, codes, bytes_eq}
 use Rattle.std.specs.Option.{option_map}
 use Rattle.session_model.specs.FileName.{is_file_name}
 
@@ -35,6 +35,10 @@ unfoldable pub positional : List (List ℕ) → Option (List (List ℕ))
 positional [] = Some []
 positional (w ∷ ws) = if bytes_eq w (codes "--") then Some ws
     else (if is_option w then None else option_map (λ rest. w ∷ rest) (positional ws))
+
+-- those of the words found so far, after the marker or before it, and of the words to come
+abbrev pub words_after : Bool → List (List ℕ) → List (List ℕ) → Option (List (List ℕ))
+words_after marked found rest = if marked then Some (found ++ rest) else option_map (λ later. found ++ later) (positional rest)
 
 -- the positional words where there are three
 abbrev pub three : Option (List (List ℕ)) → Option (List (List ℕ))

@@ -1,14 +1,14 @@
 //! What holds of all that is opened, and of each source that is refused.
-ghost use Rattle.session_opening.specs.Laws.{OpenedIsPlayable, RefusedIsFirst};
+ghost use Rattle.session_opening.specs.Laws.{PlanIsPlayable, RefusedIsFirst};
 
 /// What is opened can be played: its session is valid and plain, and the file of each source has a head of the session's
 /// rate and the source's channels.
-pub fn opened_is_playable()
-    ensures { OpenedIsPlayable }
+pub fn plan_is_playable()
+    ensures { PlanIsPlayable }
 {}
 
 /// A source is refused only of a session that is valid and plain, and it is the first whose file isn't opened.
-#[tactic(auto, using(crate::proofs::OpenedLaws::refused_is_first))]
+#[tactic(auto, using(crate::proofs::PlanLaws::refused_is_first))]
 pub fn refused_is_first()
     ensures { RefusedIsFirst }
 {}

@@ -2,15 +2,13 @@
 #![tactic(auto)]
 
 mod laws;
-mod opening;
+mod loading;
+mod plain;
 mod reading;
 mod unopened;
 mod words;
 
-pub use laws::{opened_is_playable, refused_is_first};
-pub use opening::{Opening, open};
+pub use laws::{plan_is_playable, refused_is_first};
+pub use loading::{Loaded, open};
 pub use unopened::Unopened;
 pub use words::{Export, command};
-
-#[cfg(test)]
-mod tests;

@@ -1,10 +1,10 @@
 //! A file of the media, read whole.
-ghost use Rattle.std.specs.Prelude.{◌≡◌, ◌≤◌, length, take, min, IfOk};
-ghost use Rattle.ses_io.specs.Faults.{HasCause};
-ghost use Rattle.ses_io.specs.Files.{content, IsPart};
+ghost use Rattle.std.specs.Prelude.{◌≡◌, take, IfOk};
+ghost use Rattle.ses_io.specs.Outside.{OnlyReads};
+ghost use Rattle.ses_io.specs.Files.{content};
 ghost use Rattle.session_opening.specs.Causes.{ReadCause};
 
-use ses_io::{Failed, Media};
+use ses_io::{Failed, Media, read_at_full};
 use std::alloc::{AllocError, Global};
 
 /// Why a file isn't read.
@@ -13,31 +13,6 @@ pub enum Unread {
     /// A read failed, and the media's count of them rose.
     Fault,
     NoMemory,
-}
-
-// Fills the buffer from the file's front on, or stops at its end.
-fn fill<M: Media>(media: &mut M, name: &str, buf: &mut [u8]) -> Result<usize, Failed>
-    ensures bound { IfOk result (λ n. n ≤ length buf.new) }
-    ensures bytes { M.tells
-        → IfOk result (IsPart (content (M.files media.old) name.now) 0 buf.new) }
-    ensures all { M.tells → IfOk result
-        (λ n. n ≡ min (length buf.new) (length (content (M.files media.old) name.now))) }
-    ensures files { M.files media.new ≡ M.files media.old }
-    ensures cause { HasCause (M.read_faults media.old) (M.read_faults media.new) result }
-    ensures other_count { M.write_faults media.new ≡ M.write_faults media.old }
-{
-    let mut filled = 0;
-    for _turn in 0..buf.len() {
-        if filled == buf.len() {
-            break;
-        }
-        let n = media.read_at(name, filled as u64, &mut buf[filled..])?;
-        if n == 0 {
-            break;
-        }
-        filled += n;
-    }
-    Ok(filled)
 }
 
 impl From<AllocError> for Unread {
@@ -69,14 +44,13 @@ pub(crate) fn read_whole<M: Media>(
     name: &str,
     size: u64,
 ) -> Result<Vec<u8>, Unread>
-    ensures bytes { M.tells
-        → IfOk result (λ v. v.items ≡ take size (content (M.files media.old) name.now)) }
-    ensures files { M.files media.new ≡ M.files media.old }
-    ensures cause { ReadCause (M.read_faults media.old) (M.read_faults media.new) result }
-    ensures other_count { M.write_faults media.new ≡ M.write_faults media.old }
+    ensures bytes { M.outside.tells
+        → IfOk result (λ v. v.items ≡ take size (content (M.outside.files media.old) name.now)) }
+    ensures only_reads { OnlyReads M.outside media.old media.new }
+    ensures cause { ReadCause (M.outside.read_faults media.old) (M.outside.read_faults media.new) result }
 {
     let mut bytes = vec![in alloc; 0; size as usize]?;
-    let filled = fill(media, name, bytes.as_mut_slice())?;
+    let filled = read_at_full(media, name, 0, bytes.as_mut_slice())?;
     bytes.truncate(filled);
     Ok(bytes)
 }

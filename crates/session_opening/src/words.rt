@@ -1,9 +1,11 @@
 //! What the words of the command line mean.
-ghost use Rattle.std.specs.Prelude.{◌≡◌, ◌<◌, ◌^◌, ◌≤◌, map, IfSome, Some, [], ◌∷◌, length, codes, bytes_eq};
+ghost use Rattle.std.specs.Prelude.{◌≡◌, ◌<◌, ◌^◌, ◌≤◌, ℕ, List, if◌then◌else◌, map, IfSome, None, ◌∷◌, length, codes, bytes_eq};
 ghost use Rattle.std.specs.Option.{option_map};
 ghost use Rattle.session_opening.specs.Words as spec;
-ghost use Rattle.session_opening.specs.Spoken.{three_words, export_view};
+ghost use Rattle.session_opening.specs.Spoken.{three_words, export_view, words_with};
 
+use arrayvec::ArrayVec;
+use ses_units::limits::{CYCLES, END};
 use session_model::is_file_name;
 
 /// The words of `export S FROM CYCLES`.
@@ -71,63 +73,59 @@ struct Three<'a> {
     cycles: &'a str,
 }
 
-fn spoken<'a>(session: &'a str, from: &'a str, cycles: &'a str) -> Option<Three<'a>>
-    ensures { option_map three_words result ≡ Some (session.now ∷ from.now ∷ cycles.now ∷ []) }
-{
-    Some(Three {
-        session,
-        from,
-        cycles,
-    })
+// The positional words among those that were looked at: at most three, and whether `--` stood among them.
+#[derive(Drop)]
+struct Positionals<'a> {
+    found: ArrayVec<&'a str, 3>,
+    marked: bool,
 }
 
-#[tactic(auto, unfolding(crate::specs::Words::positional))]
-// The positional words of four words, where they are three.
-fn around_marker<'a>(a: &'a str, b: &'a str, c: &'a str, d: &'a str) -> Option<Three<'a>>
-    ensures { option_map three_words result
-        ≡ spec.three (spec.positional (a.now ∷ b.now ∷ c.now ∷ d.now ∷ [])) }
-{
-    if is_marker(a) {
-        spoken(b, c, d)
-    } else if is_option(a) {
-        None
-    } else if is_marker(b) {
-        spoken(a, c, d)
-    } else if is_option(b) {
-        None
-    } else if is_marker(c) {
-        spoken(a, b, d)
-    } else if is_option(c) {
-        None
-    } else if is_marker(d) {
-        spoken(a, b, c)
-    } else {
-        None
+impl<'a> Positionals<'a> {
+    // Looks at one word more: `--` makes all later words positional, and no option is known yet. False where the words aren't
+    // three positional ones, whatever follows.
+    fn look_at(&mut self, word: &'a str) -> bool
+        ensures { (rest : List (List ℕ)) → spec.three (words_with self.old (word.now ∷ rest))
+            ≡ (if result then spec.three (words_with self.new rest) else None) }
+    {
+        if !self.marked {
+            if is_marker(word) {
+                self.marked = true;
+                return true;
+            }
+            if is_option(word) {
+                return false;
+            }
+        }
+        if self.found.is_full() {
+            return false;
+        }
+        self.found.push(word);
+        true
     }
 }
 
-#[tactic(auto, unfolding(crate::specs::Words::positional))]
-// The positional words of three words, which are none of them the marker or an option.
-fn without_marker<'a>(a: &'a str, b: &'a str, c: &'a str) -> Option<Three<'a>>
-    ensures { option_map three_words result ≡ spec.three (spec.positional (a.now ∷ b.now ∷ c.now ∷ [])) }
-{
-    if is_option(a) || is_option(b) || is_option(c) {
-        None
-    } else {
-        spoken(a, b, c)
-    }
-}
-
+// The positional words, where there are three.
 fn positional<'a>(words: &[&'a str]) -> Option<Three<'a>>
     ensures { option_map three_words result ≡ spec.three (spec.positional (map (λ w. w.now) words.now)) }
 {
-    if words.len() == 3 {
-        without_marker(words[0], words[1], words[2])
-    } else if words.len() == 4 {
-        around_marker(words[0], words[1], words[2], words[3])
-    } else {
-        None
+    let mut all = Positionals {
+        found: ArrayVec::new(),
+        marked: false,
+    };
+    for word in words {
+        if !all.look_at(word) {
+            return None;
+        }
     }
+    if !all.found.is_full() {
+        return None;
+    }
+    let found = all.found.as_slice();
+    Some(Three {
+        session: found[0],
+        from: found[1],
+        cycles: found[2],
+    })
 }
 
 // The number, where it lies in the range.
@@ -157,8 +155,8 @@ fn export_of<'a>(session: &'a str, from: &str, cycles: &str) -> Option<Export<'a
     if !is_file_name(session.as_bytes()) {
         return None;
     }
-    let from = within(0, 1_099_511_627_775, number(from))?;
-    let cycles = within(1, 100_000, number(cycles))?;
+    let from = within(0, u128::from(END - 1), number(from))?;
+    let cycles = within(1, u128::from(CYCLES), number(cycles))?;
     Some(Export {
         session,
         from: from as u64,

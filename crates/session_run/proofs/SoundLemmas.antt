@@ -7,12 +7,12 @@ use Rattle.sound_model.specs.Regions.{Sounds}
 use Rattle.session_model.specs.declared.session.Session.{Session}
 use Rattle.session_model.specs.declared.session.SourceDecl.{SourceDecl}
 use Rattle.ses_io.specs.Files.{Files}
-use Rattle.audio_source.specs.Opened.{Opened, IsOpened}
+use Rattle.audio_source.specs.Opened.{OpenedSource, IsOpened}
 use Rattle.audio_source.specs.Told.{sample_by, source_sound}
 use Rattle.audio_source.proofs.FrameLaws.{frames_are_the_files}
 use Rattle.session_run.specs.Headline.{sample_in, sounds_in}
 
-pub sounds_are : (files : Files) (s : Session) (opened : List Opened) → IsOpened files s.rate s.sources.items opened → source_sound files opened ≡ sounds_in files s
+pub sounds_are : (files : Files) (s : Session) (opened : List OpenedSource) → IsOpened files s.rate s.sources.items opened → source_sound files opened ≡ sounds_in files s
 sounds_are files s opened is = fun_ext (λ n. fun_ext (λ i. fun_ext (λ c. by n i c (slice_get_cases s.sources.items n).1))) where
   by : (n i c : ℕ) → ((d : SourceDecl) × (n < length s.sources.items) × (slice_get s.sources.items n ≡ Some d) × (get_or s.sources.items n d ≡ d)) ⊎ ((length s.sources.items ≤ n) × (slice_get s.sources.items n ≡ None))
       → source_sound files opened n i c ≡ sounds_in files s n i c

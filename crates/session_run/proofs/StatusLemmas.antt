@@ -7,10 +7,10 @@ use Rattle.cycle_journal.specs.declared.status.Status.{Status}
 use Rattle.cycle_journal.specs.declared.status.Status.TheVariants.{Done, Usage, MasterFault, NoMemory}
 use Rattle.cycle_journal.specs.declared.status.Status.TheVariants as status
 use Rattle.audio_source.specs.Refusals.{why_of}
-use Rattle.engine_core.specs.Events.{only_noted}
+use Rattle.engine_core.specs.RunInvariant.{only_noted}
 use Rattle.engine_core.specs.Serial.{IsCounted}
 use Rattle.session_opening.specs.Answers.{Caused, Refuses}
-use Rattle.session_opening.specs.Opened.{Open, Opened, Wrong}
+use Rattle.session_opening.specs.Plan.{Open, Plan, Wrong}
 use Rattle.session_opening.specs.declared.unopened.Unopened.{Unopened}
 use Rattle.session_opening.specs.declared.unopened.Unopened.TheVariants.{Session, NotBuilt, Source, ReadFault}
 use Rattle.session_opening.specs.declared.unopened.Unopened.TheVariants as unopened
@@ -29,7 +29,7 @@ some_rise before now false counted more = absurd (omega (arith, counted.kept ref
 
 -- ---- an export that isn't played
 
-pub unplayed_ends : (plan : Open Opened) (why : Unopened) → Refuses plan why → EndsWith plan (status_of why)
+pub unplayed_ends : (plan : Open Plan) (why : Unopened) → Refuses plan why → EndsWith plan (status_of why)
 unplayed_ends plan (Session refusal) is = subst (λ p. EndsWith p (status.Session refusal)) (sym is) (inl refl)
 unplayed_ends plan NotBuilt is = subst (λ p. EndsWith p status.NotBuilt) (sym is) (inl refl)
 unplayed_ends plan (Source name why) is = subst (λ p. EndsWith p (status.SourceFile name why)) (sym is) (inl (why, refl, refl))
@@ -120,7 +120,7 @@ module _ (read master : Bool) (s : Status) (of : IsOf read master s) where
 
 -- ---- completeness
 
-pub completes : (plan : Result Opened Wrong) (s : Status) (a b c d : ℕ) → EndsWith plan s → IsOk plan → IsStill a b → IsStill c d → ReadsFailed a b s → WritesFailed c d s → (s ≡ Done) ⊎ (s ≡ NoMemory)
+pub completes : (plan : Result Plan Wrong) (s : Status) (a b c d : ℕ) → EndsWith plan s → IsOk plan → IsStill a b → IsStill c d → ReadsFailed a b s → WritesFailed c d s → (s ≡ Done) ⊎ (s ≡ NoMemory)
 completes (Ok o) s a b c d (inl done) ok reads writes rf wf = inl done
 completes (Ok o) s a b c d (inr (inl fault)) ok reads writes rf wf = absurd (omega (arith, wf.cause fault, writes.same, writes.short))
 completes (Ok o) s a b c d (inr (inr (inl fault))) ok reads writes rf wf = absurd (omega (arith, rf.cause fault, reads.same, reads.short))

@@ -1,9 +1,12 @@
 -- What is so of an export that was played, from the bytes of its files to those of its master.
-use Rattle.std.specs.Prelude.{◌≡◌, ℕ, ◌-◌, ◌^◌, ◌<◌, ◌≤◌, ℤ, pos, true, List, ◌++◌, length, Option, Some, None, Result, Ok, Err, slice_get}
+use Rattle.std.specs.Prelude.{◌≡◌, ℕ, ◌-◌, ◌^◌, ◌<◌, ◌≤◌, ◌⊎◌, ℤ, pos, true, List, [], ◌++◌, length, map, Option, Some, None, Result, Ok, Err, IsOk, slice_get}
+use Rattle.std.specs.Borrow.{Bor}
 use Rattle.sound_model.specs.Regions.{Sounds}
 use Rattle.sound_model.specs.Wav.{file_sound}
 use Rattle.ses_io.specs.Files.{Files, content}
 use Rattle.ses_io.specs.FixedList.{Listed}
+use Rattle.ses_io.specs.Outside.{MediaOutside, SinkOutside}
+use Rattle.ses_io.specs.declared.world.World.{World}
 use Rattle.session_model.specs.declared.session.Session.{Session}
 use Rattle.session_model.specs.declared.session.SourceDecl.{SourceDecl}
 use Rattle.session_model.specs.declared.edit.Edit.{Edit}
@@ -14,24 +17,29 @@ use Rattle.engine_model.specs.PlainSession.{is_plain}
 use Rattle.engine_model.specs.Played.{master_file, samples_of}
 use Rattle.cycle_journal.specs.declared.entry.Entry.{Entry}
 use Rattle.cycle_journal.specs.declared.status.Status.{Status}
-use Rattle.cycle_journal.specs.declared.status.Status.TheVariants.{Done}
-use Rattle.cycle_journal.specs.Seen.{seen_entries}
-use Rattle.process_cycle.specs.declared.finished.TrackRings.{TrackRings}
-use Rattle.engine_core.specs.Passed.{PassedOn, AllGenuine}
+use Rattle.cycle_journal.specs.declared.status.Status.TheVariants.{Done, NoMemory}
+use Rattle.cycle_journal.specs.JournalView.{seen_entries}
+use Rattle.engine_core.specs.Passed.{PassedOn, AllGenuine, AllStayOpen}
 use Rattle.engine_core.specs.Written.{IsCutOff}
-use Rattle.session_opening.specs.Opened.{Opened, Wrong}
-use Rattle.session_opening.specs.Words.{Export}
+use Rattle.session_opening.specs.Plan.{Plan, Wrong, plan_of}
+use Rattle.session_opening.specs.Words.{Export, command}
+use Rattle.session_run.specs.declared.outcome.Outcome.{Outcome}
+use Rattle.session_run.specs.Status.{EndsWith, ReadsFailed, WritesFailed}
 
 -- a count of faults is what it was, and it didn't stand still at its end
 pub record IsStill (before now : ℕ) : Type 0 where
   pub same : now ≡ before
   pub short : before < 2 ^ 64 - 1
 
+-- the bytes of the words
+abbrev pub texts : List (Bor (List ℕ)) → List (List ℕ)
+texts words = map (λ w. w.now) words
+
 -- ---- what is meant
 
 -- the accepted edits of an export: a locate and a roll
-abbrev pub edits_of : Opened → List Edit
-edits_of o = accepted o.session o.cycles (export_commands o.from)
+abbrev pub edits_of : Plan → List Edit
+edits_of p = accepted p.session p.cycles (export_commands p.from)
 
 -- the sample of frame i and channel c of a source's file; there is none where there is no source
 abbrev pub sample_in : Files → Option SourceDecl → ℕ → ℕ → ℤ
@@ -43,61 +51,81 @@ abbrev pub sounds_in : Files → Session → Sounds
 sounds_in files s n i c = sample_in files (slice_get s.sources.items n) i c
 
 -- **the master of an export**: header, the blocks of its entries, and silence for the cycles that weren't made
-abbrev pub exported : Files → Opened → List engine.Entry → List ℕ
-exported files o journal = master_file o.session (edits_of o) (samples_of (sounds_in files o.session) o.session (edits_of o)) o.cycles journal
+abbrev pub exported : Files → Plan → List engine.Entry → List ℕ
+exported files p journal = master_file p.session (edits_of p) (samples_of (sounds_in files p.session) p.session (edits_of p)) p.cycles journal
 
--- ---- what is so
-
--- where an export was played it was opened; then of what was opened, and of its entries
-abbrev pub WherePlayed : Result Opened Wrong → Option (Listed Entry) → (Opened → List engine.Entry → Type 0) → Type 0
-WherePlayed (Ok o) (Some journal) P = P o (seen_entries journal.items)
-WherePlayed (Ok o) None P = Unit {0}
+-- where something was played there was a plan; then of this plan, and of the entries
+abbrev pub WherePlayed : Result Plan Wrong → Option (Listed Entry) → (Plan → List engine.Entry → Type 0) → Type 0
+WherePlayed (Ok p) (Some journal) P = P p (seen_entries journal.items)
+WherePlayed (Ok p) None P = Unit {0}
 WherePlayed (Err wrong) (Some journal) P = ⊥
 WherePlayed (Err wrong) None P = Unit {0}
 
--- the journal is lawful: editions never go back, and nothing older is heard than what is settled
-abbrev pub IsLawful : Opened → List engine.Entry → Type 0
-IsLawful o journal = is_lawful o.session (edits_of o) journal ≡ true
-
--- it has an entry for each cycle, fewer only where the master's count of faults rose
-abbrev pub HasItsCycles : ℕ → ℕ → Opened → List engine.Entry → Type 0
-HasItsCycles before now o journal = (length journal ≤ o.cycles) × (IsStill before now → length journal ≡ o.cycles)
-
--- the rings of each track are ordered, and what the journal says of them is true
-abbrev pub AreTrue : List TrackRings → Opened → List engine.Entry → Type 0
-AreTrue rings o journal = PassedOn o.session (edits_of o) journal rings
-
--- each piece that was sent is genuine
-abbrev pub AreGenuine : Files → List TrackRings → Opened → List engine.Entry → Type 0
-AreGenuine files rings o journal = AllGenuine (sounds_in files o.session) o.session (edits_of o) rings
-
--- the master got the export, where its count of faults didn't rise
-abbrev pub GetsTheExport : Files → List ℕ → List ℕ → ℕ → ℕ → Opened → List engine.Entry → Type 0
-GetsTheExport files held holds before now o journal = IsStill before now → holds ≡ held ++ exported files o journal
-
--- where its count rose, what it got is cut off
-abbrev pub IsCutOffThere : Files → List ℕ → List ℕ → ℕ → ℕ → Opened → List engine.Entry → Type 0
-IsCutOffThere files held holds before now o journal = before < now → IsCutOff held holds o.session (edits_of o) (samples_of (sounds_in files o.session) o.session (edits_of o)) o.cycles journal
-
--- at Done the journal is the plain one: each cycle rolls, hears the newest playlists, and is settled
-abbrev pub IsPlainAtDone : Status → Opened → List engine.Entry → Type 0
-IsPlainAtDone status o journal = status ≡ Done → journal ≡ plain o.session o.cycles (export_commands o.from)
-
--- ---- whatever the media tells
-
--- What was played is the export that the words ask for, of some plain session. Where the media tells, it is the session of the
--- files.
-pub record IsOfSome (e : Export) (status : Status) (rings : List TrackRings) (before now : ℕ) (journal : List engine.Entry) : Type 0 where
-  pub session : Session
-  pub is_plain : is_plain session ≡ true
-  pub lawful : IsLawful (record { session = session; from = e.from; cycles = e.cycles }) journal
-  pub cycles : HasItsCycles before now (record { session = session; from = e.from; cycles = e.cycles }) journal
-  pub rings_are : AreTrue rings (record { session = session; from = e.from; cycles = e.cycles }) journal
-  pub plainly : IsPlainAtDone status (record { session = session; from = e.from; cycles = e.cycles }) journal
-
 -- where something was played the words were a command
-abbrev pub PlaysSome : Option Export → Option (Listed Entry) → (Export → List engine.Entry → Type 0) → Type 0
-PlaysSome (Some e) (Some journal) P = P e (seen_entries journal.items)
-PlaysSome None (Some journal) P = ⊥
-PlaysSome (Some e) None P = Unit {0}
-PlaysSome None None P = Unit {0}
+abbrev pub WhereAsked : Option Export → Option (Listed Entry) → (Export → List engine.Entry → Type 0) → Type 0
+WhereAsked (Some e) (Some journal) P = P e (seen_entries journal.items)
+WhereAsked None (Some journal) P = ⊥
+WhereAsked (Some e) None P = Unit {0}
+WhereAsked None None P = Unit {0}
+
+module _ {M I C W O : Type 0} where
+  -- ---- an export that was played
+
+  -- What is so of every run by a plan, whatever the media tells.
+  pub record IsRun (master : SinkOutside W) (old : World M I C W O) (new : Outcome M I C W O) (p : Plan) (journal : List engine.Entry) : Type 0 where
+    -- editions never go back, and nothing older is heard than what is settled
+    pub lawful : is_lawful p.session (edits_of p) journal ≡ true
+    -- there is an entry for each cycle, fewer only where the master's count of faults rose
+    pub most : length journal ≤ p.cycles
+    pub all : IsStill (master.faults old.master) (master.faults new.world.master) → length journal ≡ p.cycles
+    -- the rings of each track are ordered, and what the journal says of them is true
+    pub rings : PassedOn p.session (edits_of p) journal new.rings.items
+    -- at Done each cycle rolls, hears the newest playlists, and is settled
+    pub plainly : new.status ≡ Done → journal ≡ plain p.session p.cycles (export_commands p.from)
+
+  -- An export that was played, of a media that tells its files.
+  pub record IsExport (media : MediaOutside M) (master : SinkOutside W) (old : World M I C W O) (new : Outcome M I C W O) (p : Plan) (journal : List engine.Entry) : Type 0 where
+    pub run : IsRun master old new p journal
+    -- each piece that was sent is genuine
+    pub genuine : AllGenuine (sounds_in (media.files old.media) p.session) p.session (edits_of p) new.rings.items
+    -- the master got the export, where its count of faults didn't rise
+    pub written : master.tells → IsStill (master.faults old.master) (master.faults new.world.master) →
+        master.held new.world.master ≡ master.held old.master ++ exported (media.files old.media) p journal
+    -- and where it rose, what it got is cut off
+    pub cut_off : master.tells → master.faults old.master < master.faults new.world.master →
+        IsCutOff (master.held old.master) (master.held new.world.master) p.session (edits_of p) (samples_of (sounds_in (media.files old.media) p.session) p.session (edits_of p)) p.cycles journal
+
+  -- What was played is the export that the words ask for, of some plain session.
+  pub record IsOfSome (master : SinkOutside W) (old : World M I C W O) (new : Outcome M I C W O) (e : Export) (journal : List engine.Entry) : Type 0 where
+    pub session : Session
+    pub is_plain : is_plain session ≡ true
+    pub run : IsRun master old new (record { session = session; from = e.from; cycles = e.cycles }) journal
+
+  -- what was played is the export that the words and the files make
+  abbrev pub PlaysTheExport : MediaOutside M → SinkOutside W → World M I C W O → List (List ℕ) → Outcome M I C W O → Type 0
+  PlaysTheExport media master old words new = WherePlayed (plan_of (media.files old.media) words) new.journal (IsExport media master old new)
+
+  -- it is the export that the words ask for, also where the media tells nothing
+  abbrev pub PlaysAnExport : SinkOutside W → World M I C W O → List (List ℕ) → Outcome M I C W O → Type 0
+  PlaysAnExport master old words new = WhereAsked (command words) new.journal (IsOfSome master old new)
+
+  -- ---- statuses, faults and their causes
+
+  -- the status is the one that the words and the files determine
+  abbrev pub EndsAsPlanned : MediaOutside M → World M I C W O → List (List ℕ) → Outcome M I C W O → Type 0
+  EndsAsPlanned media old words new = EndsWith (plan_of (media.files old.media) words) new.status
+
+  -- Each fault that is answered has its cause.
+  pub record HasCauses (media : MediaOutside M) (master : SinkOutside W) (old : World M I C W O) (new : Outcome M I C W O) : Type 0 where
+    -- a failed read of the media
+    pub reads : ReadsFailed (media.read_faults old.media) (media.read_faults new.world.media) new.status
+    -- a failed write of the master
+    pub writes : WritesFailed (master.faults old.master) (master.faults new.world.master) new.status
+    -- a ring of items is closed only where a read failed
+    pub still_open : IsStill (media.read_faults old.media) (media.read_faults new.world.media) → AllStayOpen new.rings.items
+
+  -- where nothing is wrong and nothing fails, only want of memory keeps an export from Done
+  abbrev pub IsComplete : MediaOutside M → SinkOutside W → World M I C W O → List (List ℕ) → Outcome M I C W O → Type 0
+  IsComplete media master old words new = IsOk (plan_of (media.files old.media) words) →
+      IsStill (media.read_faults old.media) (media.read_faults new.world.media) → IsStill (master.faults old.master) (master.faults new.world.master) →
+      (new.status ≡ Done) ⊎ (new.status ≡ NoMemory)

@@ -1,4 +1,3 @@
 -- What the contract of the top call cites.
 pub mod Status
 pub mod Headline
-pub mod Does

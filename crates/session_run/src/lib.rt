@@ -9,6 +9,3 @@ pub use audio_source::FileRefusal;
 pub use cycle_journal::{InputRefusal, Status};
 pub use outcome::Outcome;
 pub use top::run;
-
-#[cfg(test)]
-mod tests;

@@ -12,6 +12,7 @@ use Rattle.session_walk.specs.declared.said as text
 use Rattle.session_walk.specs.InRange.{IsRoute, IsTrack}
 use Rattle.session_toml.specs.Rules.{has_route, is_track, first_target, route_channels, narrows}
 use Rattle.session_toml.specs.Built.{place_of, route_names, kind_in, route_in, master_in, routes_in}
+use Rattle.session_toml.proofs.RuleLaws.{find-none}
 use Rattle.session_toml.proofs.NumberedLaws.{numbered-long}
 use Rattle.session_toml.proofs.LookLaws.{got-within, got-front, got-last, got-numbered, IsThere, IsLost, looked-up, behind}
 
@@ -79,16 +80,6 @@ channels-least (q ∷ qs) ch name all some = by_test (bytes_eq q.named.name name
 record NotLed (p : List ℕ → Bool) (q : text.RouteText.RouteText) : Type 0 where
   out : p q.strip.out ≡ false
   sends : All (λ l. p l.to ≡ false) q.sends.items
-
-pub found-none : {A : Type 0} (p : A → Bool) (x : A) (xs : List A) → find p (x ∷ xs) ≡ None → (p x ≡ false) × (find p xs ≡ None)
-found-none p x xs e = by_test (p x) (λ t. absurd (found t)) (λ t. (t, rw t at e))
-  where
-    found : p x ≡ true → ⊥
-    found t = cc (rw t at e)
-
-pub find-none : {A : Type 0} (p : A → Bool) (xs : List A) → find p xs ≡ None → All (λ x. p x ≡ false) xs
-find-none p [] e = All-nil (λ x. p x ≡ false)
-find-none p (x ∷ xs) e = let (here, rest) = found-none p x xs e in All-cons (λ y. p y ≡ false) x xs here (find-none p xs rest)
 
 not-led : (p : List ℕ → Bool) (q : text.RouteText.RouteText) → first_target p q ≡ None → NotLed p q
 not-led p q e = by_test (p q.strip.out)

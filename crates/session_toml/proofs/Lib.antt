@@ -1,9 +1,11 @@
 pub mod TwiceLaws
+pub mod FirstLaws
 pub mod PlaceLaws
 pub mod PlaylistLaws
 pub mod NumberedLaws
 pub mod RuleLaws
 pub mod LookLaws
 pub mod FeedLaws
+pub mod BuiltLaws
 pub mod FormLaws
 pub mod SessionLaws

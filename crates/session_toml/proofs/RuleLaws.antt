@@ -12,12 +12,12 @@ use Rattle.session_model.specs.declared.refusal.SessionRefusal.{SessionRefusal}
 use Rattle.session_model.specs.declared.refusal.SessionRefusal.TheVariants.{Twice, SendTwice, NoSource, NoRoute, Channels}
 use Rattle.session_walk.specs.declared.said.RouteText.{RouteText}
 use Rattle.session_walk.specs.declared.said.TrackOwn.{TrackOwn}
-use Rattle.session_walk.proofs.RangeLaws.{after}
-use Rattle.session_toml.specs.Rules.{twice_after, first_twice, first_of, same_source, same_route, same_send, region_twice, lost_source, has_route, is_track, first_target, shows_other, narrows, none_of, names_once, items_once, names_there, channels_fit, rules}
+use Rattle.session_walk.proofs.PartRangeLaws.{after}
+use Rattle.session_toml.specs.Rules.{twice_after, first_twice, first_of, same_source, same_route, same_send, region_twice, lost_source, has_route, is_track, first_target, shows_other, narrows, none_of, routes_once, sources_once, sends_once, regions_once, sources_there, routes_there, busses_fed, sources_fit, rules}
 
 -- ---- words on lists
 
-found-none : {A : Type 0} (p : A → Bool) (x : A) (xs : List A) → find p (x ∷ xs) ≡ None → (p x ≡ false) × (find p xs ≡ None)
+pub found-none : {A : Type 0} (p : A → Bool) (x : A) (xs : List A) → find p (x ∷ xs) ≡ None → (p x ≡ false) × (find p xs ≡ None)
 found-none p x xs e = by_test (p x) (λ t. absurd (found t)) (λ t. (t, rw t at e))
   where
     found : p x ≡ true → ⊥
@@ -93,22 +93,19 @@ pub record Keeps (routes : List RouteText) (tracks : List TrackOwn) (sources : L
   pub wide : All (λ q. narrows routes master q ≡ false) routes
 
 pub rules-kept : (routes : List RouteText) (tracks : List TrackOwn) (sources : List SourceDecl) (master : ℕ) (u : Unit {0}) → rules routes tracks sources master ≡ Ok u → Keeps routes tracks sources master
-unfolding rules names_once items_once names_there channels_fit
+unfolding rules
 rules-kept routes tracks sources master u e =
-    after (names_once routes sources) _ u e (λ u1 names e. after (items_once routes tracks) _ u e (λ u2 items e. after (names_there routes tracks sources) _ u e (λ u3 there fit.
-    after (none_of (option_map (λ q. Twice q.named.name) (first_twice same_route routes))) _ u1 names (λ v1 route source.
-    after (none_of (option_map (λ q. SendTwice q.named.name) (find (λ q. is_some (first_twice same_send q.sends.items)) routes))) _ u2 items (λ v2 send region.
-    after (none_of (option_map NoSource (first_of (lost_source sources) tracks))) _ u3 there (λ v3 lost there.
-    after (none_of (option_map NoRoute (first_of (first_target (λ name. not (has_route routes name))) routes))) _ u3 there (λ v4 noroute notbus.
-    after (none_of (option_map (λ k. Channels k.named.name) (find (shows_other sources) tracks))) _ u fit (λ v5 other narrow.
+    after (routes_once routes) _ u e (λ v1 route e. after (sources_once sources) _ u e (λ v2 source e. after (sends_once routes) _ u e (λ v3 send e.
+    after (regions_once tracks) _ u e (λ v4 region e. after (sources_there sources tracks) _ u e (λ v5 lost e. after (routes_there routes) _ u e (λ v6 noroute e.
+    after (busses_fed routes tracks) _ u e (λ v7 notbus e. after (sources_fit sources tracks) _ u e (λ v8 other narrow.
     record {
       routes_apart = all-apart same_route routes (unmapped _ _ (none-in _ v1 route));
-      sources_apart = all-apart same_source sources (unmapped _ _ (none-in _ u1 source));
-      sends_apart = find-none _ routes (unmapped _ _ (none-in _ v2 send));
-      regions_apart = first_of-none region_twice tracks (none-in _ u2 region);
-      shown = first_of-none (lost_source sources) tracks (unmapped _ _ (none-in _ v3 lost));
-      there = first_of-none (first_target (λ name. not (has_route routes name))) routes (unmapped _ _ (none-in _ v4 noroute));
-      busses = first_of-none (first_target (is_track tracks)) routes (unmapped _ _ (none-in _ u3 notbus));
-      alike = find-none (shows_other sources) tracks (unmapped _ _ (none-in _ v5 other));
+      sources_apart = all-apart same_source sources (unmapped _ _ (none-in _ v2 source));
+      sends_apart = find-none _ routes (unmapped _ _ (none-in _ v3 send));
+      regions_apart = first_of-none region_twice tracks (none-in _ v4 region);
+      shown = first_of-none (lost_source sources) tracks (unmapped _ _ (none-in _ v5 lost));
+      there = first_of-none (first_target (λ name. not (has_route routes name))) routes (unmapped _ _ (none-in _ v6 noroute));
+      busses = first_of-none (first_target (is_track tracks)) routes (unmapped _ _ (none-in _ v7 notbus));
+      alike = find-none (shows_other sources) tracks (unmapped _ _ (none-in _ v8 other));
       wide = find-none (narrows routes master) routes (unmapped _ _ (none-in _ u narrow));
     }))))))))

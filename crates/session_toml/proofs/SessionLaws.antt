@@ -18,7 +18,8 @@ use Rattle.session_model.specs.Views as views
 use Rattle.session_walk.specs.declared.fault.SessionFault.{SessionFault}
 use Rattle.session_walk.specs.Fault.{Gives}
 use Rattle.session_walk.specs.Text.{written}
-use Rattle.session_walk.proofs.RangeLaws.{after, written_is_in_range}
+use Rattle.session_walk.proofs.PartRangeLaws.{after}
+use Rattle.session_walk.proofs.RangeLaws.{written_is_in_range}
 use Rattle.session_walk.proofs.SaysLaws.{written_is_said}
 use Rattle.session_toml.specs.Session.{rules_of, built, laid_out, on_cycle, refuse_cycle, without_cycle, session}
 use Rattle.session_toml.specs.Laws.{AcceptedIsValid, AcceptedIsSaid}

@@ -49,8 +49,8 @@ route_in names kind q = record {
   kind = kind;
   channels = q.named.channels;
   fader = q.strip.level.gain;
-  mode = q.strip.ride.mode;
-  lane = q.strip.ride.lane;
+  mode = q.strip.automation.mode;
+  lane = q.strip.automation.lane;
   muted = q.strip.level.muted;
   left = q.strip.left;
   right = q.strip.right;
@@ -64,8 +64,8 @@ master_in channels m = record {
   kind = Master;
   channels = channels;
   fader = m.level.gain;
-  mode = m.ride.mode;
-  lane = m.ride.lane;
+  mode = m.automation.mode;
+  lane = m.automation.lane;
   muted = m.level.muted;
   left = unity;
   right = unity;
@@ -99,9 +99,9 @@ playlist_in names regions = by_layer (map (region_in names) regions)
 unfoldable pub track_in : List (List ℕ) → ℕ → text.TrackOwn.TrackOwn → Track
 track_in names place k = record {
   route = place;
-  solo = k.taking.solo;
-  armed = k.taking.armed;
-  input = k.taking.input;
+  solo = k.settings.solo;
+  armed = k.settings.armed;
+  input = k.settings.input;
   list = playlist_in names k.regions.items;
 }
 

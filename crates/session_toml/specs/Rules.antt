@@ -89,33 +89,51 @@ abbrev pub none_of : Option SessionRefusal → Read (Unit {0})
 none_of None = Ok tt
 none_of (Some refusal) = Err refusal
 
-unfoldable pub names_once : List RouteText → List SourceDecl → Read (Unit {0})
-names_once routes sources = do
-  once ← none_of (option_map (λ q. Twice q.named.name) (first_twice same_route routes))
-  none_of (option_map (λ d. Twice d.name) (first_twice same_source sources))
+-- no two routes have one name
+abbrev pub routes_once : List RouteText → Read (Unit {0})
+routes_once routes = none_of (option_map (λ q. Twice q.named.name) (first_twice same_route routes))
 
--- no two sends of a route lead to one name, and no two regions of a track have one id
-unfoldable pub items_once : List RouteText → List TrackOwn → Read (Unit {0})
-items_once routes tracks = do
-  once ← none_of (option_map (λ q. SendTwice q.named.name) (find (λ q. is_some (first_twice same_send q.sends.items)) routes))
-  none_of (first_of region_twice tracks)
+-- nor two sources
+abbrev pub sources_once : List SourceDecl → Read (Unit {0})
+sources_once sources = none_of (option_map (λ d. Twice d.name) (first_twice same_source sources))
 
--- each source that is shown is there; each route that is led to is there, and is no track
-unfoldable pub names_there : List RouteText → List TrackOwn → List SourceDecl → Read (Unit {0})
-names_there routes tracks sources = do
-  shown ← none_of (option_map NoSource (first_of (lost_source sources) tracks))
-  there ← none_of (option_map NoRoute (first_of (first_target (λ name. not (has_route routes name))) routes))
-  none_of (option_map NotBus (first_of (first_target (is_track tracks)) routes))
+-- no two sends of a route lead to one name
+abbrev pub sends_once : List RouteText → Read (Unit {0})
+sends_once routes = none_of (option_map (λ q. SendTwice q.named.name) (find (λ q. is_some (first_twice same_send q.sends.items)) routes))
 
-unfoldable pub channels_fit : List RouteText → List TrackOwn → List SourceDecl → ℕ → Read (Unit {0})
-channels_fit routes tracks sources master = do
-  shown ← none_of (option_map (λ k. Channels k.named.name) (find (shows_other sources) tracks))
-  none_of (option_map (λ q. Channels q.named.name) (find (narrows routes master) routes))
+-- no two regions of a track have one id
+abbrev pub regions_once : List TrackOwn → Read (Unit {0})
+regions_once tracks = none_of (first_of region_twice tracks)
+
+-- each source that is shown is there
+abbrev pub sources_there : List SourceDecl → List TrackOwn → Read (Unit {0})
+sources_there sources tracks = none_of (option_map NoSource (first_of (lost_source sources) tracks))
+
+-- each route that is led to is there
+abbrev pub routes_there : List RouteText → Read (Unit {0})
+routes_there routes = none_of (option_map NoRoute (first_of (first_target (λ name. not (has_route routes name))) routes))
+
+-- and is no track
+abbrev pub busses_fed : List RouteText → List TrackOwn → Read (Unit {0})
+busses_fed routes tracks = none_of (option_map NotBus (first_of (first_target (is_track tracks)) routes))
+
+-- a region shows a source of its track's channels
+abbrev pub sources_fit : List SourceDecl → List TrackOwn → Read (Unit {0})
+sources_fit sources tracks = none_of (option_map (λ k. Channels k.named.name) (find (shows_other sources) tracks))
+
+-- a route of two channels feeds none of one
+abbrev pub targets_fit : List RouteText → ℕ → Read (Unit {0})
+targets_fit routes master = none_of (option_map (λ q. Channels q.named.name) (find (narrows routes master) routes))
 
 -- all of them; the master has so many channels
 unfoldable pub rules : List RouteText → List TrackOwn → List SourceDecl → ℕ → Read (Unit {0})
 rules routes tracks sources master = do
-  names ← names_once routes sources
-  items ← items_once routes tracks
-  there ← names_there routes tracks sources
-  channels_fit routes tracks sources master
+  routes_apart ← routes_once routes
+  sources_apart ← sources_once sources
+  sends_apart ← sends_once routes
+  regions_apart ← regions_once tracks
+  shown ← sources_there sources tracks
+  there ← routes_there routes
+  busses ← busses_fed routes tracks
+  alike ← sources_fit sources tracks
+  targets_fit routes master

@@ -6,11 +6,14 @@ ghost use Rattle.session_model.specs.Region.{region_of};
 
 use crate::places::place_of;
 use ses_io::NoMemory;
+use ses_units::limits::{ROUTES, SENDS, TRACKS};
 use ses_units::{Gain, Name};
 use session_model::{
     Playlist, Region, Route, RouteKind, RouteList, SendLink, SendList, Track, TrackList,
 };
-use session_walk::{MasterText, RegionText, Ride, RouteText, SendText, Strip, TrackOwn};
+use session_walk::{
+    Automation, ChannelStrip, MasterText, RegionText, RouteText, SendText, TrackOwn,
+};
 use std::alloc::Global;
 
 // ---- routes
@@ -31,7 +34,7 @@ fn sends_in(alloc: Global, names: &[Name], sends: &[SendText]) -> Result<SendLis
     requires few { length sends.now ≤ 8 }
     ensures { IfOk result (λ l. l ≡ spec.sends_in names.now sends.now) }
 {
-    let mut links = SendList::new(alloc, 8)?;
+    let mut links = SendList::new(alloc, SENDS)?;
     for send in sends {
         links.push(send_in(names, send));
     }
@@ -65,14 +68,14 @@ pub(crate) fn route_in(
         strip,
         sends,
     } = text;
-    let Strip {
+    let ChannelStrip {
         out,
         level,
         left,
         right,
-        ride,
+        automation,
     } = strip;
-    let Ride { mode, lane } = ride;
+    let Automation { mode, lane } = automation;
     let target = place_of(names, out) as u32;
     let sends = sends_in(alloc, names, sends.as_slice())?;
     Ok(Route {
@@ -104,9 +107,9 @@ fn master_name() -> Name
 pub(crate) fn master_in(alloc: Global, channels: u16, text: MasterText) -> Result<Route, NoMemory>
     ensures { IfOk result (λ q. q ≡ spec.master_in channels text) }
 {
-    let MasterText { level, ride } = text;
-    let Ride { mode, lane } = ride;
-    let sends = SendList::new(alloc, 8)?;
+    let MasterText { level, automation } = text;
+    let Automation { mode, lane } = automation;
+    let sends = SendList::new(alloc, SENDS)?;
     Ok(Route {
         name: master_name(),
         kind: RouteKind::Master,
@@ -172,9 +175,9 @@ pub(crate) fn track_in(
     let list = playlist_in(alloc, names, text.regions.as_slice())?;
     Ok(Track {
         route: place,
-        solo: text.taking.solo,
-        armed: text.taking.armed,
-        input: text.taking.input,
+        solo: text.settings.solo,
+        armed: text.settings.armed,
+        input: text.settings.input,
         list,
     })
 }
@@ -194,7 +197,7 @@ pub(crate) fn routes_in(
     ensures { IfOk result (λ l. l ≡ spec.listed 64 (spec.numbered (λ place.
         spec.route_in names.now (spec.kind_in tracks place)) 0 texts.items)) }
 {
-    let mut routes = RouteList::new(alloc, 64)?;
+    let mut routes = RouteList::new(alloc, ROUTES)?;
     for text in texts {
         let kind = kind_in(tracks, routes.len() as u32);
         let route = route_in(alloc, names, kind, text)?;
@@ -214,7 +217,7 @@ pub(crate) fn tracks_in(
     requires playable { All (λ k. ArePlayable k.regions.items) texts.now }
     ensures { IfOk result (λ l. l ≡ spec.listed 32 (spec.numbered (spec.track_in names.now) 0 texts.now)) }
 {
-    let mut tracks = TrackList::new(alloc, 32)?;
+    let mut tracks = TrackList::new(alloc, TRACKS)?;
     for (i, text) in texts.iter().enumerate() {
         let track = track_in(alloc, names, i as u32, text)?;
         tracks.push(track);

@@ -12,6 +12,3 @@ pub use laws::{accepted_is_said, accepted_is_valid};
 pub use session::session_of;
 pub use session_model::{Key, Part, Place, SessionRefusal};
 pub use session_walk::SessionFault;
-
-#[cfg(test)]
-mod tests;

@@ -1,4 +1,6 @@
 pub mod TableLaws
 pub mod EachLaws
+pub mod PartRangeLaws
 pub mod RangeLaws
+pub mod SaysKeyLaws
 pub mod SaysLaws

@@ -55,9 +55,9 @@ pub record IsTrack (k : text.TrackText.TrackText) : Type 0 where
   pub route : IsRoute k.route
   pub named : k.own.named ≡ k.route.named
   -- its channels are among the input's 8
-  pub input : IfSome k.own.taking.input (λ first. first + k.route.named.channels ≤ 8)
+  pub input : IfSome k.own.settings.input (λ first. first + k.route.named.channels ≤ 8)
   -- armed only with an input
-  pub armed : k.own.taking.armed ≡ true → IsSome k.own.taking.input
+  pub armed : k.own.settings.armed ≡ true → IsSome k.own.settings.input
   -- at most 256 regions
   pub few : length k.own.regions.items ≤ 256
   pub regions : All IsRegionText k.own.regions.items

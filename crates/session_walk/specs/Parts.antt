@@ -93,20 +93,20 @@ level_of s = do
   muted ← flag_or s key.Mute false
   Ok (record { gain = gain; muted = muted })
 
-unfoldable pub ride_of : Section → Read text.Ride.Ride
-ride_of s = do
+unfoldable pub automation_of : Section → Read text.Automation.Automation
+automation_of s = do
   mode ← mode_or s key.Mode
   points ← lane s
   Ok (record { mode = mode; lane = points })
 
-unfoldable pub strip_of : Section → Read text.Strip.Strip
+unfoldable pub strip_of : Section → Read text.ChannelStrip.ChannelStrip
 strip_of s = do
   out ← name_or s key.Out (codes "master")
   level ← level_of s
   left ← gain_or s key.Left
   right ← gain_or s key.Right
-  ride ← ride_of s
-  Ok (record { out = out; level = level; left = left; right = right; ride = ride })
+  automation ← automation_of s
+  Ok (record { out = out; level = level; left = left; right = right; automation = automation })
 
 -- a name other than the master's
 unfoldable pub named_of : Section → Read text.Named.Named
@@ -138,8 +138,8 @@ abbrev pub input : Section → ℕ → Read (Option ℕ)
 input s channels = or_default None (input_of s channels) (value_at s key.Input)
 
 -- armed only with an input
-unfoldable pub taking_of : Section → ℕ → Read text.Taking.Taking
-taking_of s channels = do
+unfoldable pub settings_of : Section → ℕ → Read text.InputSettings.InputSettings
+settings_of s channels = do
   input ← input s channels
   solo ← flag_or s key.Solo false
   armed ← flag_or s key.Arm false
@@ -153,13 +153,13 @@ unfoldable pub track_of : Section → Read text.TrackText.TrackText
 track_of s = do
   known ← only s track_keys
   named ← named_of s
-  taking ← taking_of s named.channels
+  settings ← settings_of s named.channels
   strip ← strip_of s
   send_rows ← tables s key.Send 8
   region_rows ← tables s key.Region 256
   regions ← entries region_of (item_of part.Region s.place.row) 256 region_rows
   sends ← entries send_of (item_of part.TrackSend s.place.row) 8 send_rows
-  Ok (record { route = record { named = named; strip = strip; sends = sends }; own = record { named = named; taking = taking; regions = regions } })
+  Ok (record { route = record { named = named; strip = strip; sends = sends }; own = record { named = named; settings = settings; regions = regions } })
 
 -- ---- the master
 
@@ -170,5 +170,5 @@ unfoldable pub master_of : Section → Read text.MasterText.MasterText
 master_of s = do
   known ← only s master_keys
   level ← level_of s
-  ride ← ride_of s
-  Ok (record { level = level; ride = ride })
+  automation ← automation_of s
+  Ok (record { level = level; automation = automation })

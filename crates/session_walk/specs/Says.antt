@@ -120,23 +120,23 @@ pub record SaysLevel (m : Members) (l : text.Level.Level) : Type 0 where
   pub gain : OrDefault SaysWhole m key.Gain unity l.gain
   pub muted : OrDefault SaysFlag m key.Mute false l.muted
 
-pub record SaysRide (m : Members) (r : text.Ride.Ride) : Type 0 where
+pub record SaysAutomation (m : Members) (r : text.Automation.Automation) : Type 0 where
   pub mode : OrDefault SaysMode m key.Mode Manual r.mode
   pub lane : SaysLane m r.lane
 
-pub record SaysStrip (m : Members) (s : text.Strip.Strip) : Type 0 where
+pub record SaysChannelStrip (m : Members) (s : text.ChannelStrip.ChannelStrip) : Type 0 where
   pub out : OrDefault SaysText m key.Out (codes "master") s.out
   pub level : SaysLevel m s.level
   pub left : OrDefault SaysWhole m key.Left unity s.left
   pub right : OrDefault SaysWhole m key.Right unity s.right
-  pub ride : SaysRide m s.ride
+  pub automation : SaysAutomation m s.automation
 
 pub record SaysRoute (m : Members) (q : text.RouteText.RouteText) : Type 0 where
   pub named : SaysNamed m q.named
-  pub strip : SaysStrip m q.strip
+  pub strip : SaysChannelStrip m q.strip
   pub sends : SaysEach SaysSend m key.Send q.sends.items
 
-pub record SaysTaking (m : Members) (t : text.Taking.Taking) : Type 0 where
+pub record SaysInputSettings (m : Members) (t : text.InputSettings.InputSettings) : Type 0 where
   pub input : SaysInput m t.input
   pub solo : OrDefault SaysFlag m key.Solo false t.solo
   pub armed : OrDefault SaysFlag m key.Arm false t.armed
@@ -145,12 +145,12 @@ pub record SaysTrack (m : Members) (k : text.TrackText.TrackText) : Type 0 where
   pub route : SaysRoute m k.route
   -- the track's own name is its route's
   pub named : k.own.named ≡ k.route.named
-  pub taking : SaysTaking m k.own.taking
+  pub settings : SaysInputSettings m k.own.settings
   pub regions : SaysEach SaysRegion m key.Region k.own.regions.items
 
 pub record SaysMaster (m : Members) (t : text.MasterText.MasterText) : Type 0 where
   pub level : SaysLevel m t.level
-  pub ride : SaysRide m t.ride
+  pub automation : SaysAutomation m t.automation
 
 -- the document says it all: an absent master has its defaults
 pub record SaysAll (m : Members) (w : Written) : Type 0 where

@@ -8,10 +8,14 @@ ghost use Rattle.session_walk.specs.Section.{section_of};
 use crate::arrays::{Entry, entries, tables};
 use crate::fault::SessionFault;
 use crate::lane::lane;
-use crate::said::{Level, MasterText, Named, Ride, RouteText, Strip, Taking, TrackOwn, TrackText};
+use crate::said::{
+    Automation, ChannelStrip, InputSettings, Level, MasterText, Named, RouteText, TrackOwn,
+    TrackText,
+};
 use crate::section::{Section, holds, item_of, only, value_at};
 use crate::values::{flag_or, gain_or, mode_or, name, name_or, whole, whole_of};
 use ses_units::Name;
+use ses_units::limits::{REGIONS, SENDS};
 use session_model::{Key, Part, SessionRefusal};
 use std::alloc::Global;
 use toml::Value;
@@ -27,30 +31,30 @@ fn level_of(part: Section<'_>) -> Result<Level, SessionRefusal>
     Ok(Level { gain, muted })
 }
 
-#[tactic(auto, unfolding(crate::specs::Parts::ride_of))]
-fn ride_of(alloc: Global, part: Section<'_>) -> Result<Ride, SessionFault>
-    ensures { Gives (spec.ride_of (section_of part.entry)) result }
+#[tactic(auto, unfolding(crate::specs::Parts::automation_of))]
+fn automation_of(alloc: Global, part: Section<'_>) -> Result<Automation, SessionFault>
+    ensures { Gives (spec.automation_of (section_of part.entry)) result }
 {
     let mode = mode_or(part, Key::Mode)?;
     let lane = lane(alloc, part)?;
-    Ok(Ride { mode, lane })
+    Ok(Automation { mode, lane })
 }
 
 #[tactic(auto, unfolding(crate::specs::Parts::strip_of))]
-fn strip_of(alloc: Global, part: Section<'_>) -> Result<Strip, SessionFault>
+fn strip_of(alloc: Global, part: Section<'_>) -> Result<ChannelStrip, SessionFault>
     ensures { Gives (spec.strip_of (section_of part.entry)) result }
 {
     let out = name_or(part, Key::Out, "master")?;
     let level = level_of(part)?;
     let left = gain_or(part, Key::Left)?;
     let right = gain_or(part, Key::Right)?;
-    let ride = ride_of(alloc, part)?;
-    Ok(Strip {
+    let automation = automation_of(alloc, part)?;
+    Ok(ChannelStrip {
         out,
         level,
         left,
         right,
-        ride,
+        automation,
     })
 }
 
@@ -102,9 +106,9 @@ impl Entry for RouteText {
         only(part, &BUS_KEYS)?;
         let named = named_of(part)?;
         let strip = strip_of(alloc, part)?;
-        let rows = tables(alloc, part, Key::Send, 8)?;
+        let rows = tables(alloc, part, Key::Send, SENDS as usize)?;
         let base = item_of(Part::BusSend, part.place.row);
-        let sends = entries(alloc, base, 8, &rows)?;
+        let sends = entries(alloc, base, SENDS, &rows)?;
         Ok(RouteText {
             named,
             strip,
@@ -133,17 +137,17 @@ fn input(part: Section<'_>, channels: u16) -> Result<Option<u16>, SessionRefusal
     }
 }
 
-#[tactic(auto, unfolding(crate::specs::Parts::taking_of))]
-fn taking_of(part: Section<'_>, channels: u16) -> Result<Taking, SessionRefusal>
+#[tactic(auto, unfolding(crate::specs::Parts::settings_of))]
+fn settings_of(part: Section<'_>, channels: u16) -> Result<InputSettings, SessionRefusal>
     requires { channels ≤ 2 }
-    ensures { result ≡ spec.taking_of (section_of part.entry) channels }
+    ensures { result ≡ spec.settings_of (section_of part.entry) channels }
 {
     let input = input(part, channels)?;
     let solo = flag_or(part, Key::Solo, false)?;
     let armed = flag_or(part, Key::Arm, false)?;
     let able = !armed || input.is_some();
     holds(able, SessionRefusal::Range(part.place, Key::Arm))?;
-    Ok(Taking { input, solo, armed })
+    Ok(InputSettings { input, solo, armed })
 }
 
 const TRACK_KEYS: [Key; 14] = [
@@ -174,16 +178,16 @@ impl Entry for TrackText {
     fn read(alloc: Global, part: Section<'_>) -> Result<TrackText, SessionFault> {
         only(part, &TRACK_KEYS)?;
         let named = named_of(part)?;
-        let taking = taking_of(part, named.channels)?;
+        let settings = settings_of(part, named.channels)?;
         let strip = strip_of(alloc, part)?;
-        let send_rows = tables(alloc, part, Key::Send, 8)?;
-        let region_rows = tables(alloc, part, Key::Region, 256)?;
+        let send_rows = tables(alloc, part, Key::Send, SENDS as usize)?;
+        let region_rows = tables(alloc, part, Key::Region, REGIONS as usize)?;
         let row = part.place.row;
-        let regions = entries(alloc, item_of(Part::Region, row), 256, &region_rows)?;
-        let sends = entries(alloc, item_of(Part::TrackSend, row), 8, &send_rows)?;
+        let regions = entries(alloc, item_of(Part::Region, row), REGIONS, &region_rows)?;
+        let sends = entries(alloc, item_of(Part::TrackSend, row), SENDS, &send_rows)?;
         let own = TrackOwn {
             named: Named { ..named },
-            taking,
+            settings,
             regions,
         };
         let route = RouteText {
@@ -204,6 +208,6 @@ pub(crate) fn master_of(alloc: Global, part: Section<'_>) -> Result<MasterText, 
 {
     only(part, &[Key::Gain, Key::Mute, Key::Mode, Key::Lane])?;
     let level = level_of(part)?;
-    let ride = ride_of(alloc, part)?;
-    Ok(MasterText { level, ride })
+    let automation = automation_of(alloc, part)?;
+    Ok(MasterText { level, automation })
 }

@@ -12,6 +12,7 @@ use crate::arrays::array;
 use crate::fault::SessionFault;
 use crate::section::{Section, holds};
 use crate::values::in_range;
+use ses_units::limits::{END, LOUDEST};
 use ses_units::{Gain, Lane, LaneRefusal, Point};
 use session_model::{Key, SessionRefusal};
 use std::alloc::{AllocError, Global};
@@ -61,8 +62,8 @@ fn only_pairs(values: &[Value], refusal: SessionRefusal) -> Result<(), SessionRe
 fn placed(at: i64, gain: i64) -> Option<Point>
     ensures { result ≡ spec.placed (at, gain) }
 {
-    let at = in_range(0, 1_099_511_627_775, at)?;
-    let gain = in_range(0, 262_144, gain)?;
+    let at = in_range(0, END - 1, at)?;
+    let gain = in_range(0, u64::from(LOUDEST), gain)?;
     match Gain::new(gain as u32) {
         Ok(gain) => Some(Point { at, gain }),
         Err(_) => unreachable!(),

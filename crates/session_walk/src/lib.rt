@@ -16,7 +16,7 @@ mod words;
 pub use fault::SessionFault;
 pub use laws::{written_is_in_range, written_is_said};
 pub use said::{
-    Fades, Head, Level, MasterText, Named, RegionText, Ride, RouteText, SendText, Span, Strip,
-    Taking, TrackOwn, TrackText, Written,
+    Automation, ChannelStrip, Fades, Head, InputSettings, Level, MasterText, Named, RegionText,
+    RouteText, SendText, Span, TrackOwn, TrackText, Written,
 };
 pub use text::written;

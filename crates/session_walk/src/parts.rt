@@ -9,6 +9,7 @@ use crate::fault::SessionFault;
 use crate::said::{Fades, Head, RegionText, SendText, Span};
 use crate::section::{Section, holds, only};
 use crate::values::{bits, file, flag_or, gain_or, name, name_or, whole, whole_or};
+use ses_units::limits;
 use session_model::{Key, SessionRefusal, SourceDecl};
 use std::alloc::Global;
 
@@ -32,10 +33,10 @@ pub(crate) fn head_of(part: Section<'_>) -> Result<Head, SessionRefusal>
     let rate = whole(part, Key::Rate, 8_000, 192_000)?;
     let bits = bits(part, Key::Bits)?;
     let channels = whole(part, Key::Channels, 1, 2)?;
-    let block = whole(part, Key::Block, 1, 4_096)?;
-    let depth = whole(part, Key::Depth, 2, 256)?;
+    let block = whole(part, Key::Block, 1, limits::BLOCK)?;
+    let depth = whole(part, Key::Depth, 2, limits::DEPTH)?;
     holds(
-        depth * block <= 65_536,
+        depth * block <= limits::AHEAD,
         SessionRefusal::Range(part.place, Key::Depth),
     )?;
     let takes = name_or(part, Key::Takes, "take")?;
@@ -92,12 +93,12 @@ fn span_of(part: Section<'_>) -> Result<Span, SessionRefusal>
     ensures span { result ≡ spec.span_of (section_of part.entry) }
     ensures within { IfOk result (λ s. s.length ≤ 1099511627776) }
 {
-    let start = whole_or(part, Key::Start, 0, 0, 1_099_511_627_775)?;
-    let length = whole(part, Key::Length, 1, 1_099_511_627_776)?;
-    let within = start + length <= 1_099_511_627_776;
+    let start = whole_or(part, Key::Start, 0, 0, limits::END - 1)?;
+    let length = whole(part, Key::Length, 1, limits::END)?;
+    let within = start + length <= limits::END;
     holds(within, SessionRefusal::Range(part.place, Key::Length))?;
-    let at = whole(part, Key::At, 0, 1_099_511_627_776)?;
-    let near = at + length <= 1_099_511_627_776;
+    let at = whole(part, Key::At, 0, limits::END)?;
+    let near = at + length <= limits::END;
     holds(near, SessionRefusal::Range(part.place, Key::At))?;
     Ok(Span { start, length, at })
 }

@@ -39,7 +39,7 @@ pub struct Level {
 
 /// How a route's fader moves: by hand, or by its lane.
 #[derive(Drop)]
-pub struct Ride {
+pub struct Automation {
     pub mode: Mode,
     pub lane: Lane,
 }
@@ -53,26 +53,26 @@ pub struct Named {
 
 /// What a track and a bus do to their sound, and where it leads.
 #[derive(Drop)]
-pub struct Strip {
+pub struct ChannelStrip {
     /// The name of the route that the output leads to.
     pub out: Name,
     pub level: Level,
     pub left: Gain,
     pub right: Gain,
-    pub ride: Ride,
+    pub automation: Automation,
 }
 
 /// A track's or a bus's place at the desk.
 #[derive(Drop)]
 pub struct RouteText {
     pub named: Named,
-    pub strip: Strip,
+    pub strip: ChannelStrip,
     pub sends: FixedList<SendText>,
 }
 
 /// What a track takes from the input.
 #[derive(Clone, Copy)]
-pub struct Taking {
+pub struct InputSettings {
     /// The first of the input's channels, from 0.
     pub input: Option<u16>,
     pub solo: bool,
@@ -83,7 +83,7 @@ pub struct Taking {
 #[derive(Drop)]
 pub struct MasterText {
     pub level: Level,
-    pub ride: Ride,
+    pub automation: Automation,
 }
 
 /// Which frames of its source a region shows, and where: `length` frames from `start` on, at `at`.
@@ -118,7 +118,7 @@ pub struct RegionText {
 #[derive(Drop)]
 pub struct TrackOwn {
     pub named: Named,
-    pub taking: Taking,
+    pub settings: InputSettings,
     pub regions: FixedList<RegionText>,
 }
 

@@ -14,6 +14,7 @@ use crate::parts::head_of;
 use crate::said::Written;
 use crate::section::{Section, only, row_of, single, value_at};
 use crate::values::needed;
+use ses_units::limits::{ROUTES, SOURCES, TRACKS};
 use session_model::{Key, Part, SessionRefusal};
 use std::alloc::Global;
 use toml::{Table, Value};
@@ -74,9 +75,9 @@ fn outline_of<'a>(
         &[Key::Session, Key::Source, Key::Track, Key::Bus, Key::Master],
     )?;
     let session = table(part, Key::Session)?;
-    let sources = tables(alloc, part, Key::Source, 64)?;
-    let tracks = tables(alloc, part, Key::Track, 32)?;
-    let busses = tables(alloc, part, Key::Bus, 63 - tracks.len())?;
+    let sources = tables(alloc, part, Key::Source, SOURCES as usize)?;
+    let tracks = tables(alloc, part, Key::Track, TRACKS as usize)?;
+    let busses = tables(alloc, part, Key::Bus, (ROUTES - 1) as usize - tracks.len())?;
     let master = table_or(part, Key::Master, empty)?;
     Ok(Outline {
         session,
@@ -97,9 +98,9 @@ fn parts_of(alloc: Global, outline: &Outline<'_>) -> Result<Written, SessionFaul
         table: outline.session,
     };
     let head = head_of(session)?;
-    let sources = entries(alloc, row_of(Part::Source), 64, &outline.sources)?;
-    let tracks = entries(alloc, row_of(Part::Track), 32, &outline.tracks)?;
-    let busses = entries(alloc, row_of(Part::Bus), 63, &outline.busses)?;
+    let sources = entries(alloc, row_of(Part::Source), SOURCES, &outline.sources)?;
+    let tracks = entries(alloc, row_of(Part::Track), TRACKS, &outline.tracks)?;
+    let busses = entries(alloc, row_of(Part::Bus), ROUTES - 1, &outline.busses)?;
     let master = Section {
         place: single(Part::Master),
         table: outline.master,

@@ -8,6 +8,7 @@ ghost use Rattle.ses_units.specs.Name.{is_name};
 
 use crate::fault::SessionFault;
 use crate::section::{Section, value_at};
+use ses_units::limits::LOUDEST;
 use ses_units::{Bits, Gain, Mode, Name};
 use session_model::{FileName, FileNameRefusal, Key, SessionRefusal};
 use std::alloc::Global;
@@ -94,7 +95,7 @@ pub(crate) fn whole_or(
 pub(crate) fn gain_or(part: Section<'_>, key: Key) -> Result<Gain, SessionRefusal>
     ensures { result ≡ spec.gain_or (section_of part.entry) key }
 {
-    let n = whole_or(part, key, 65_536, 0, 262_144)?;
+    let n = whole_or(part, key, 65_536, 0, u64::from(LOUDEST))?;
     match Gain::new(n as u32) {
         Ok(gain) => Ok(gain),
         Err(_) => unreachable!(),

@@ -27,8 +27,8 @@ AnswersFor told b (Ok (Done info)) = head told b ≡ Ok (head_of info)
 AnswersFor told b (Err refusal) = head told b ≡ Err (refusal_of refusal)
 
 -- the answer to a piece is right for each file that the scan agrees with and that has the piece
-abbrev pub Answers : Progress → List ℕ → Result Step WavRefusal → Type 0
-Answers p bytes result =
+abbrev pub StepAnswers : Progress → List ℕ → Result Step WavRefusal → Type 0
+StepAnswers p bytes result =
     (b : List ℕ) → Agrees p b → bytes ≡ wanted p b → AnswersFor (told p) b result
 
 -- the size that was told stays, what is wanted next stands after what was wanted, and the sound

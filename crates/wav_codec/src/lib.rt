@@ -17,6 +17,3 @@ pub use form::WavForm;
 pub use info::WavInfo;
 pub use refusal::WavRefusal;
 pub use scan::{Scan, Step, Want};
-
-#[cfg(test)]
-mod tests;

@@ -1,11 +1,12 @@
 //! A run of places that follow one another: silence, the frames of a region's source, silence.
 ghost use Rattle.std.specs.Prelude.{◌≡◌, ◌+◌, ◌-◌, ◌≤◌, ◌^◌, min, ◌∷◌, [], pos, length, replicate, OnOk};
 ghost use Rattle.ses_io.specs.Faults.{HasCause};
+ghost use Rattle.ses_io.specs.Outside.{OnlyReads};
 ghost use Rattle.sound_model.specs.Layers.{track_sample};
 ghost use Rattle.session_model.specs.Frames.{interleaved};
 ghost use Rattle.session_model.specs.Region.{region_of};
 ghost use Rattle.audio_source.specs.Told.{source_sound};
-ghost use Rattle.butler.specs.Render.{IsHeard, IsSilentOutside};
+ghost use Rattle.butler.specs.Render.{IsHeardPlainly, IsSilentOutside};
 
 use audio_source::{ReadFault, Sources};
 use ses_io::Media;
@@ -57,14 +58,13 @@ pub(crate) fn run<M: Media>(
     place: u64,
     out: &mut [i32],
 ) -> Result<(), ReadFault>
-    requires heard { IsHeard sources.old (region_of region.now) }
-    ensures told { M.tells → OnOk result (out.new ≡ interleaved
-        (λ x c. track_sample (source_sound (M.files media.old) sources.old) (region_of region.now ∷ []) c x)
+    requires heard { IsHeardPlainly sources.old (region_of region.now) }
+    ensures told { M.outside.tells → OnOk result (out.new ≡ interleaved
+        (λ x c. track_sample (source_sound (M.outside.files media.old) sources.old) (region_of region.now ∷ []) c x)
         1 place (length out.old)) }
     ensures sources { sources.new ≡ sources.old }
-    ensures files { M.files media.new ≡ M.files media.old }
-    ensures cause { HasCause (M.read_faults media.old) (M.read_faults media.new) result }
-    ensures other_count { M.write_faults media.new ≡ M.write_faults media.old }
+    ensures only_reads { OnlyReads M.outside media.old media.new }
+    ensures cause { HasCause (M.outside.read_faults media.old) (M.outside.read_faults media.new) result }
 {
     let part = covered(region, place, out.len());
     silence_around(part, out);

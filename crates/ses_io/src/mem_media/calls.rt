@@ -35,13 +35,12 @@ impl Media for MemMedia {
     ghost use Rattle.std.specs.Prelude.{⊤};
     ghost use Rattle.ses_io.specs.Stored.{files_in};
 
-    ghost tells = { ⊤ };
-
-    ghost files = { λ m. files_in m.files };
-
-    ghost read_faults = { λ m. m.read_faults };
-
-    ghost write_faults = { λ m. m.write_faults };
+    ghost outside = { record {
+      tells = ⊤;
+      files = λ m. files_in m.files;
+      read_faults = λ m. m.read_faults;
+      write_faults = λ m. m.write_faults;
+    } };
 
     fn size(&mut self, name: &str) -> Result<Option<u64>, Failed>
         ensures fails { IsErr result ↔ IsTrue (fails_next self.old.plan) }

@@ -5,7 +5,7 @@ ghost use Rattle.sound_model.specs.Wav.{last_place, size_at, head, head_at};
 ghost use Rattle.wav_codec.specs.Info.{IsFound};
 ghost use Rattle.wav_codec.specs.Kind.{IsKind};
 ghost use Rattle.wav_codec.specs.Progress.{scan_of, Agrees, HasSize};
-ghost use Rattle.wav_codec.specs.Step.{IfMore, IfDone, GoesOn, Answers, AnswersFor};
+ghost use Rattle.wav_codec.specs.Step.{IfMore, IfDone, GoesOn, StepAnswers, AnswersFor};
 
 use crate::fields::Format;
 use crate::info::WavInfo;
@@ -53,7 +53,7 @@ pub(super) fn given_chunk(
     requires place { at ≤ last_place }
     requires inside { at ≤ riff_size }
     ensures goes_on { GoesOn (scan_of size (Stage.Chunk riff_size at form)) result }
-    ensures answer { Answers (scan_of size (Stage.Chunk riff_size at form)) bytes.now result }
+    ensures answer { StepAnswers (scan_of size (Stage.Chunk riff_size at form)) bytes.now result }
 {
     if bytes.len() < 8 {
         return Err(WavRefusal::NoData);

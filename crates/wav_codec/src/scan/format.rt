@@ -3,7 +3,7 @@
 ghost use Rattle.std.specs.Prelude.{◌≡◌, ◌<◌, ◌≤◌, ◌+◌, ◌%◌, ℕ, List, length, is_some};
 ghost use Rattle.sound_model.specs.Wav.{last_place};
 ghost use Rattle.wav_codec.specs.Progress.{scan_of, Agrees, wanted_at};
-ghost use Rattle.wav_codec.specs.Step.{IfMore, IfDone, GoesOn, Answers, AnswersFor};
+ghost use Rattle.wav_codec.specs.Step.{IfMore, IfDone, GoesOn, StepAnswers, AnswersFor};
 
 use crate::fields::Fields;
 use crate::refusal::WavRefusal;
@@ -21,7 +21,7 @@ pub(super) fn given_format(
     requires place { at ≤ last_place }
     requires fields { 16 ≤ chunk_size }
     ensures goes_on { GoesOn (scan_of size (Stage.Format riff_size at chunk_size)) result }
-    ensures answer { Answers (scan_of size (Stage.Format riff_size at chunk_size))
+    ensures answer { StepAnswers (scan_of size (Stage.Format riff_size at chunk_size))
         bytes.now result }
 {
     let Some(fields) = Fields::from_bytes(bytes) else {
@@ -62,7 +62,7 @@ pub(super) fn given_format_end(
     requires fields { 16 < chunk_size }
     ensures goes_on { GoesOn (scan_of size (Stage.FormatEnd riff_size at chunk_size fields))
         result }
-    ensures answer { Answers (scan_of size (Stage.FormatEnd riff_size at chunk_size fields))
+    ensures answer { StepAnswers (scan_of size (Stage.FormatEnd riff_size at chunk_size fields))
         bytes.now result }
 {
     if bytes.is_empty() {

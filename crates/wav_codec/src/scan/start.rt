@@ -3,7 +3,7 @@
 ghost use Rattle.std.specs.Prelude.{◌≡◌, ◌≤◌, length, take, drop, bytes_eq};
 ghost use Rattle.sound_model.specs.Numbers.{number};
 ghost use Rattle.wav_codec.specs.Progress.{scan_of};
-ghost use Rattle.wav_codec.specs.Step.{GoesOn, Answers};
+ghost use Rattle.wav_codec.specs.Step.{GoesOn, StepAnswers};
 
 use crate::refusal::WavRefusal;
 use crate::scan::chunk::look_at;
@@ -13,7 +13,7 @@ use crate::scan::{Stage, Step};
 #[tactic(auto, unfolding(sound_model::specs::Wav::head))]
 pub(super) fn given_start(size: Option<u64>, bytes: &[u8]) -> Result<Step, WavRefusal>
     ensures goes_on { GoesOn (scan_of size Stage.Riff) result }
-    ensures answer { Answers (scan_of size Stage.Riff) bytes.now result }
+    ensures answer { StepAnswers (scan_of size Stage.Riff) bytes.now result }
 {
     if bytes.len() < 12 || !begins(bytes, b"RIFF") {
         return Err(WavRefusal::NotRiff);

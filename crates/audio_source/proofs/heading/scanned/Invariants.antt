@@ -7,10 +7,10 @@ use Rattle.audio_source.proofs.heading.scanned.Given as goal
 abbrev pub invariant-loop-next : goal.invariant-loop-next
 invariant-loop-next g l = record {
   size : l.scan.size ≡ Some l.fn.size;
-  agrees : g.M.Media.tells → Agrees l.scan (content (g.M.Media.files l.fn.media) l.name);
-  files : g.M.Media.files l.media ≡ g.M.Media.files l.fn.media;
-  reads : g.M.Media.read_faults l.media ≡ g.M.Media.read_faults l.fn.media;
-  writes : g.M.Media.write_faults l.media ≡ g.M.Media.write_faults l.fn.media;
+  agrees : g.M.Media.outside.tells → Agrees l.scan (content (g.M.Media.outside.files l.fn.media) l.name);
+  files : g.M.Media.outside.files l.media ≡ g.M.Media.outside.files l.fn.media;
+  reads : g.M.Media.outside.read_faults l.media ≡ g.M.Media.outside.read_faults l.fn.media;
+  writes : g.M.Media.outside.write_faults l.media ≡ g.M.Media.outside.write_faults l.fn.media;
 }
 
 -- places rise, and are bounded

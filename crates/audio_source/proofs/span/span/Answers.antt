@@ -27,7 +27,7 @@ returns-clause-told g c = λ t. let info = c.args.entry.now.info in let f = c.mi
     let n = c.in_ok-read.read in let asked = f * info.channels * (info.bits / 8) in
     let fit = bytes.bytes_fit f many info.channels info.bits (length c.args.buf.now) c.requires.found.form.bits (omega (arith, c.min-frames.ensures)) c.requires.room in
     let long : length c.fetch.new.buf ≡ asked = c.fetch.auto.buf ∙ length-take-le asked c.args.buf.now fit in
-    laws.stretch (head_of info) (content (g.M.Media.files c.args.media.now) c.args.entry.now.file) c.args.from many f n c.fetch.new.buf
+    laws.stretch (head_of info) (content (g.M.Media.outside.files c.args.media.now) c.args.entry.now.file) c.args.from many f n c.fetch.new.buf
     (take n (c.fetch.new.buf ++ drop asked c.args.buf.now)) c.deliver.new.out
     (record {
       depth = c.requires.found.form.bits;
@@ -38,7 +38,7 @@ returns-clause-told g c = λ t. let info = c.args.entry.now.info in let f = c.mi
       room = long ∙ bytes.frames_times f info.channels (info.bits / 8);
       few = c.in_ok-read.ensures.bound;
       whole = c.in_ok-read.ensures.whole;
-      piece = let K : List ℕ → Type 0 = λ name. IsPieceAt (head_of info) (content (g.M.Media.files c.args.media.now) name) c.args.from c.fetch.new.buf n in
+      piece = let K : List ℕ → Type 0 = λ name. IsPieceAt (head_of info) (content (g.M.Media.outside.files c.args.media.now) name) c.args.from c.fetch.new.buf n in
           subst K c.as_str.ensures.bytes (c.in_ok-read.ensures.told t);
       bytes_are = take-append-le n c.fetch.new.buf (drop asked c.args.buf.now) c.in_ok-read.ensures.bound;
       out_is = c.deliver.ensures.samples;

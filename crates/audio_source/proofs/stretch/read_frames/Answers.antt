@@ -20,14 +20,14 @@ loop-turn-preserved g c = let info = c.args.entry.now.info in let done = c.loop-
       within = laws.inside_still end done out c.span.new.out on;
       turns = omega (arith, c.min-end.ensures, c.loop-turn.invariant.turns, c.loop-turn.invariant.within, c.if-done-out.false);
       whole = laws.end_whole end done info.channels out low c.min-end.ensures c.loop-turn.invariant.within c_whole c.loop-turn.invariant.whole;
-      told = λ t. laws.told_more (head_of info) (content (g.M.Media.files c.args.media.now) c.args.entry.now.file) info.channels c.args.from c.min-first.result (2 ^ 64 - 1) end done out c.span.new.out low on
+      told = λ t. laws.told_more (head_of info) (content (g.M.Media.outside.files c.args.media.now) c.args.entry.now.file) info.channels c.args.from c.min-first.result (2 ^ 64 - 1) end done out c.span.new.out low on
           c.loop-turn.invariant.whole (c.min-first.ensures ∙ ap (λ x. min x info.frames) c.saturating_add.ensures) (laws.few_frames info c.requires.readable.found) (c.loop-turn.invariant.told t)
           (let K : Files → Type 0 = λ fs. c.span.new.out ≡ interleaved (sound (head_of info) (content fs c.args.entry.now.file)) info.channels c.min-first.result (length (take (end - done) (drop done out))) in
           subst K c.loop-turn.invariant.files (c.in_ok-span.ensures.told t));
       range = laws.range_more end done out c.span.new.out on c.loop-turn.invariant.range c.in_ok-span.ensures.range;
-      files = c.in_ok-span.ensures.files ∙ c.loop-turn.invariant.files;
+      files = c.in_ok-span.ensures.only_reads.files ∙ c.loop-turn.invariant.files;
       reads = c.in_ok-span.ensures.cause.kept ∙ c.loop-turn.invariant.reads;
-      writes = c.in_ok-span.ensures.other_count ∙ c.loop-turn.invariant.writes;
+      writes = c.in_ok-span.ensures.only_reads.other_count ∙ c.loop-turn.invariant.writes;
     }
 
 pub returns-after-loop-turn-clause-range : goal.returns-after-loop-turn-clause-range

@@ -12,9 +12,9 @@ invariant-loop-turn g l = record {
   within : l.done ≤ length l.out;
   turns : l._turn ≤ l.done;
   whole : l.done % l.entry.info.channels ≡ 0;
-  told : g.M.Media.tells → take l.done l.out ≡ interleaved (sound (head_of l.entry.info) (content (g.M.Media.files l.fn.media) l.entry.file)) l.entry.info.channels l.from l.done;
+  told : g.M.Media.outside.tells → take l.done l.out ≡ interleaved (sound (head_of l.entry.info) (content (g.M.Media.outside.files l.fn.media) l.entry.file)) l.entry.info.channels l.from l.done;
   range : All IsSample (take l.done l.out);
-  files : g.M.Media.files l.media ≡ g.M.Media.files l.fn.media;
-  reads : g.M.Media.read_faults l.media ≡ g.M.Media.read_faults l.fn.media;
-  writes : g.M.Media.write_faults l.media ≡ g.M.Media.write_faults l.fn.media;
+  files : g.M.Media.outside.files l.media ≡ g.M.Media.outside.files l.fn.media;
+  reads : g.M.Media.outside.read_faults l.media ≡ g.M.Media.outside.read_faults l.fn.media;
+  writes : g.M.Media.outside.write_faults l.media ≡ g.M.Media.outside.write_faults l.fn.media;
 }

@@ -3,16 +3,16 @@ use Rattle.std.specs.Prelude.{slice_get, Some}
 use Rattle.std.proofs.lemmas.List.{length-replicate}
 use Rattle.session_model.specs.declared.session.Session.{Session}
 use Rattle.piece_item.specs.declared.item.Item.{Item}
-use Rattle.butler.specs.declared.supply.Supply.{Supply}
+use Rattle.butler.specs.declared.supply.TrackSupply.{TrackSupply}
 use Rattle.butler.proofs.FirstLemmas.{IsFirst, one_more}
 use Rattle.butler.proofs.beginning.supplies.Goals as goal
 
 pub loop-track-preserved : goal.loop-track-preserved
 loop-track-preserved c = let so_far = c.loop-track.invariant in let items = c.in_ok-push.ensures.items in let many = so_far.many in
-    let x : Supply = record { ahead = c.first.result; spare = Some c.in_ok-spare.spare } in record {
+    let x : TrackSupply = record { progress = c.first.result; spare = Some c.in_ok-spare.spare } in record {
       end = so_far.end;
       many = let long = length-append c.loop-track.supplies.items (x ∷ []) in omega (arith, ap length items);
-      each = subst (λ (ps : List Supply). (t : ℕ) (p : Supply) → slice_get ps t ≡ Some p → IsFirst c.args.e.now t p) (sym items)
+      each = subst (λ (ps : List TrackSupply). (t : ℕ) (p : TrackSupply) → slice_get ps t ≡ Some p → IsFirst c.args.e.now t p) (sym items)
           (one_more c.args.e.now c.loop-track.supplies.items c.loop-track.track x so_far.many (
             c.first.ensures ∙ (λ i. record { generation = (c.transport.ensures.transport i).generation; touched = c.touched.ensures i; fresh = 0; far = 0; mark = 0 }),
             ap (λ (z : Item). length z.samples.items) c.in_ok-spare.ensures ∙ length-replicate {A = ℤ} c.session-in-loop-track.result.now.block (pos 0)

@@ -14,15 +14,15 @@ loop-done-preserved g c = let out = c.loop-done.out in let done = c.loop-done.do
     let on : IsRunOn done end out c.run.new.out = record { inside = omega (arith, c.following.ensures.most, c.loop-done-test.true); rises = omega arith; same = c.run.auto.out } in
     let place = c.place-place.result in
     let heard = λ (sounds : Sounds) (x k : ℕ). track_sample sounds (r ∷ []) k x in
-    let same : source_sound (g.M.Media.files c.loop-done.media) c.loop-done.sources ≡ source_sound (g.M.Media.files c.args.media.now) c.args.sources.now =
-    ap (λ files. source_sound files c.loop-done.sources) c.loop-done.invariant.files ∙ ap (source_sound (g.M.Media.files c.args.media.now)) c.loop-done.invariant.sources in
+    let same : source_sound (g.M.Media.outside.files c.loop-done.media) c.loop-done.sources ≡ source_sound (g.M.Media.outside.files c.args.media.now) c.args.sources.now =
+    ap (λ files. source_sound files c.loop-done.sources) c.loop-done.invariant.files ∙ ap (source_sound (g.M.Media.outside.files c.args.media.now)) c.loop-done.invariant.sources in
     record {
       within = laws.run_inside done end out c.run.new.out on;
-      told = λ t. laws.run_more (heard (source_sound (g.M.Media.files c.args.media.now) c.args.sources.now)) c.args.transport.now c.args.first place done end out c.run.new.out
+      told = λ t. laws.run_more (heard (source_sound (g.M.Media.outside.files c.args.media.now) c.args.sources.now)) c.args.transport.now c.args.first place done end out c.run.new.out
           c.requires.transport on c.place-place.ensures (λ k below. c.following.ensures.follow k (omega arith)) (c.loop-done.invariant.told t)
           (c.in_ok-run.ensures.told t ∙ ap (λ sounds. interleaved (heard sounds) 1 place (length (take (end - done) (drop done out)))) same);
       sources = c.in_ok-run.ensures.sources ∙ c.loop-done.invariant.sources;
-      files = c.in_ok-run.ensures.files ∙ c.loop-done.invariant.files;
+      files = c.in_ok-run.ensures.only_reads.files ∙ c.loop-done.invariant.files;
       reads = c.in_ok-run.ensures.cause.kept ∙ c.loop-done.invariant.reads;
-      writes = c.in_ok-run.ensures.other_count ∙ c.loop-done.invariant.writes;
+      writes = c.in_ok-run.ensures.only_reads.other_count ∙ c.loop-done.invariant.writes;
     }

@@ -11,12 +11,12 @@ use Rattle.butler.proofs.render.runs.Given as goal
 abbrev pub invariant-loop-done : goal.invariant-loop-done
 invariant-loop-done g l = record {
   within : l.done ≤ length l.out;
-  told : g.M.Media.tells → take l.done l.out ≡ interleaved
-      (λ n c. track_sample (source_sound (g.M.Media.files l.fn.media) l.fn.sources) (region_of l.region ∷ []) c (place_of (transport_of l.transport) n)) 1 l.first l.done;
+  told : g.M.Media.outside.tells → take l.done l.out ≡ interleaved
+      (λ n c. track_sample (source_sound (g.M.Media.outside.files l.fn.media) l.fn.sources) (region_of l.region ∷ []) c (place_of (transport_of l.transport) n)) 1 l.first l.done;
   sources : l.sources ≡ l.fn.sources;
-  files : g.M.Media.files l.media ≡ g.M.Media.files l.fn.media;
-  reads : g.M.Media.read_faults l.media ≡ g.M.Media.read_faults l.fn.media;
-  writes : g.M.Media.write_faults l.media ≡ g.M.Media.write_faults l.fn.media;
+  files : g.M.Media.outside.files l.media ≡ g.M.Media.outside.files l.fn.media;
+  reads : g.M.Media.outside.read_faults l.media ≡ g.M.Media.outside.read_faults l.fn.media;
+  writes : g.M.Media.outside.write_faults l.media ≡ g.M.Media.outside.write_faults l.fn.media;
 }
 
 abbrev pub decreases-loop-done : goal.decreases-loop-done

@@ -3,8 +3,10 @@ use Rattle.std.specs.Prelude.{Some}
 use Rattle.audio_source.specs.Told.{source_sound}
 use Rattle.piece_item.specs.declared.kind.Kind.{Kind}
 use Rattle.piece_item.specs.Views.{kind_of}
+use Rattle.butler.specs.Pass.{PassState}
 use Rattle.butler.specs.Serves.{IsBlockOf}
-use Rattle.butler.specs.Ahead.{needs_of, advanced}
+use Rattle.butler.specs.SendProgress.{needs_of, target_of, now_due, advanced}
+use Rattle.butler.specs.declared.target.TrackTarget.{TrackTarget}
 use Rattle.butler.proofs.RunLemmas.{serves_nothing, serves_one, serves_full}
 use Rattle.butler.proofs.sending.send_next.Goals as goal
 
@@ -18,9 +20,11 @@ pub returns-in-Err-put-clause-serves : goal.returns-in-Err-put-clause-serves
 returns-in-Err-put-clause-serves g c = serves_full _ _ _ _ _ _ c.in-Err-put.full.head _ c.in-Err-put.ensures.answer.1
 
 pub returns-in-Ok-clause-serves : goal.returns-in-Ok-clause-serves
-returns-in-Ok-clause-serves g c = let kind = c.in_default-fill.ensures.kind in let item = c.fill.new.item in
-    let sounds = source_sound (g.M.Media.files c.args.shelf.now.media) c.args.shelf.now.sources in
-    serves_one _ sounds c.args.e.now (needs_of c.args.wants.now) _ _ _ _ _ item c.in-Ok.husk.value c.in-Ok.ensures.answer
-    (sym c.in-Some.ensures.due ∙ ap (λ (k : Kind). Some (kind_of k)) (sym kind))
-    (c.in-Some.ensures.then ∙ ap (λ (k : Kind). advanced c.args.wants.now.next c.args.supply.now.ahead (kind_of k)) (sym kind))
-    (λ t. subst (λ (k : Kind). IsBlockOf sounds c.args.e.now (kind_of k) item.samples.items) (sym kind) (c.in_default-fill.ensures.block t))
+returns-in-Ok-clause-serves g c = let kind = c.in_default-fill.ensures.kind in let item = c.fill.new.item in let aims = c.of-target.ensures.those in
+    let sounds = source_sound (g.M.Media.outside.files c.args.reader.now.media) c.args.reader.now.sources in
+    serves_one _ sounds c.args.pass.now.edition (needs_of (target_of c.args.pass.now c.args.track)) _ _ _ _ _ item c.in-Ok.husk.value c.in-Ok.ensures.answer
+    (ap (λ (w : TrackTarget). now_due (needs_of w) c.args.supply.now.progress) (sym aims) ∙ sym c.in-Some.ensures.due ∙ ap (λ (k : Kind). Some (kind_of k)) (sym kind))
+    (c.in-Some.ensures.then ∙ ap (λ (w : TrackTarget). advanced w.next c.args.supply.now.progress (kind_of c.in-Some.kind)) aims
+    ∙ ap (λ (k : Kind). advanced c.args.pass.now.next c.args.supply.now.progress (kind_of k)) (sym kind))
+    (λ t. subst (λ (k : Kind). IsBlockOf sounds c.args.pass.now.edition (kind_of k) item.samples.items) (sym kind)
+    (subst (λ (p : PassState). IsBlockOf sounds p.edition (kind_of c.in-Some.kind) item.samples.items) c.pass.view_is (c.in_default-fill.ensures.block t)))

@@ -7,10 +7,10 @@ use Rattle.butler.proofs.serving.serve_all.Given as goal
 abbrev pub invariant-loop-track : goal.invariant-loop-track
 invariant-loop-track g l = record {
   count : l.count ≡ length l.initial.supplies;
-  so_far : SoFar g.M.Media.tells (source_sound (g.M.Media.files l.initial.shelf.media) l.initial.shelf.sources) l.e l.next l.cycles
+  so_far : SoFar g.M.Media.outside.tells (source_sound (g.M.Media.outside.files l.initial.reader.media) l.initial.reader.sources) l.pass
       l.track l.most l.sent l.initial.supplies l.initial.sends l.supplies l.sends;
-  sources : l.shelf.sources ≡ l.initial.shelf.sources;
-  files : g.M.Media.files l.shelf.media ≡ g.M.Media.files l.initial.shelf.media;
-  reads : g.M.Media.read_faults l.shelf.media ≡ g.M.Media.read_faults l.initial.shelf.media;
-  writes : g.M.Media.write_faults l.shelf.media ≡ g.M.Media.write_faults l.initial.shelf.media;
+  sources : l.reader.sources ≡ l.initial.reader.sources;
+  files : g.M.Media.outside.files l.reader.media ≡ g.M.Media.outside.files l.initial.reader.media;
+  reads : g.M.Media.outside.read_faults l.reader.media ≡ g.M.Media.outside.read_faults l.initial.reader.media;
+  writes : g.M.Media.outside.write_faults l.reader.media ≡ g.M.Media.outside.write_faults l.initial.reader.media;
 }

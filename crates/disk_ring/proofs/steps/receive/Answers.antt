@@ -11,6 +11,6 @@ store-requires g c = let p = c.requires.place in let words = p.words in let now 
   c.exchange-item.ensures.0 ∙ p.table,
   omega arith,
   receives _ g.T.Roomy.room_of _ _ _ _ c.args.slot _ _ c.args.husk (ap (λ v. v.takes) know ∙ p.mine) (ap (λ v. v.held) know ∙ c.requires.hand.2)
-      (c.requires.room ∙ sym (ap (λ v. v.room) know)) (p.place ∙ ap (λ v. length v.received % c.args.board.now.shared.table_id.slots) (sym know))
+      (c.requires.room ∙ sym (ap (λ v. v.room) know)) (p.place ∙ ap (λ v. length v.received % c.args.ring_table.now.shared.table_id.slots) (sym know))
       (ap (λ m. m.1) now ∙ ap (λ r. (c.args.slot, c.args.husk) ∷ r) (ap rest c.requires.hand.1)) (omega arith),
 )

@@ -11,6 +11,6 @@ store-requires g c = let p = c.requires.place in let words = p.words in let now 
   c.exchange-husk.ensures.0 ∙ p.table,
   omega arith,
   appends _ g.T.Roomy.room_of _ _ _ _ c.args.slot _ c.args.full (ap (λ v. v.sends) know ∙ p.mine) (ap (λ v. v.filling) know ∙ p.fills) (ap (λ v. v.closed) know ∙ p.still_open)
-      (c.requires.room ∙ sym (ap (λ v. v.room) know)) (p.place ∙ ap (λ v. length v.sent % c.args.board.now.shared.table_id.slots) (sym know))
+      (c.requires.room ∙ sym (ap (λ v. v.room) know)) (p.place ∙ ap (λ v. length v.sent % c.args.ring_table.now.shared.table_id.slots) (sym know))
       (ap (λ m. m.1) now ∙ ap (λ r. (c.args.slot, c.args.full) ∷ r) (ap rest c.requires.hand.1)) (omega arith),
 )

@@ -1,114 +1,67 @@
-use Rattle.std.proofs.Common.{◌≡◌, ◌≤◌, length, sym, ap, ◌∙◌, arith}
+use Rattle.std.proofs.Common.{length, sym, ap, ◌∙◌, arith}
 use Rattle.session_model.specs.declared.session.Session.{Session}
-use Rattle.engine_core.specs.declared.shelves.Shelves.{Shelves}
+use Rattle.engine_core.specs.declared.lists.RunLists.{RunLists}
 use Rattle.butler.proofs.KeepLemmas.{session_is}
 use Rattle.engine_core.proofs.PlayLemmas as play
 use Rattle.engine_core.proofs.playing.play_script.Goals as goal
 
 -- src/playing.rt
-pub controlled-edition-requires-clause-open : goal.controlled-edition-requires-clause-open
-controlled-edition-requires-clause-open g c = let a = c.args in (play.at_first c.requires.0 a.edition a.sources a.cycles c.requires.1).0
+pub controlled-edition-requires : goal.controlled-edition-requires
+controlled-edition-requires g c = let a = c.args in let may = c.requires.1.1.0 in (may.edition_of, (may.first, (play.at_first g.begun.session a.edition a.sources a.cycles may).0))
 
 pub start-requires : goal.start-requires
-start-requires g c = let s = c.requires.0 in let may = c.requires.1 in let a = c.args in let new = c.controlled-edition.result in (
-  s,
-  play.may_start s a.edition a.sources a.cycles a.script.from new may (c.controlled-edition.ensures.controlled s may.edition_of)
-      c.controlled-edition.ensures.still_open c.controlled-edition.ensures.recording,
-)
+start-requires g c = let a = c.args in let e = c.controlled-edition.ensures in λ κs k.
+    (k.0, (k.1, play.may_start g.begun.session a.edition a.sources a.cycles a.script.from c.controlled-edition.result c.requires.1.1.0 e.controlled e.still_open e.recording))
 
-pub perform-run-requires-clause-runs : goal.perform-run-requires-clause-runs
-perform-run-requires-clause-runs g c = let s = c.requires.0 in let may = c.requires.1 in let a = c.args in let new = c.controlled-edition.result in let begun = c.in-Ok.started.run in let controlled = c.controlled-edition.ensures.controlled s may.edition_of in
-    let started = c.in-Ok.ensures.started s (play.may_start s a.edition a.sources a.cycles a.script.from new may controlled c.controlled-edition.ensures.still_open c.controlled-edition.ensures.recording) in
-    (s, play.runs_first s a.script.from a.cycles a.edition a.sources a.media a.master begun may new controlled started)
-
-pub perform-run-requires-clause-none : goal.perform-run-requires-clause-none
-perform-run-requires-clause-none g c = let s = c.requires.0 in let may = c.requires.1 in let a = c.args in let new = c.controlled-edition.result in let begun = c.in-Ok.started.run in let controlled = c.controlled-edition.ensures.controlled s may.edition_of in
-    let started = c.in-Ok.ensures.started s (play.may_start s a.edition a.sources a.cycles a.script.from new may controlled c.controlled-edition.ensures.still_open c.controlled-edition.ensures.recording) in
-    play.none_yet s a.script.from a.cycles a.edition a.sources a.media a.master begun may new controlled started
-
-pub perform-run-requires-clause-all : goal.perform-run-requires-clause-all
-perform-run-requires-clause-all g c = let s = c.requires.0 in let may = c.requires.1 in let a = c.args in let new = c.controlled-edition.result in let begun = c.in-Ok.started.run in let controlled = c.controlled-edition.ensures.controlled s may.edition_of in
-    let started = c.in-Ok.ensures.started s (play.may_start s a.edition a.sources a.cycles a.script.from new may controlled c.controlled-edition.ensures.still_open c.controlled-edition.ensures.recording) in
-    play.room_for_all s a.script.from a.cycles a.edition a.sources a.media a.master begun may new controlled started
+pub perform-run-requires : goal.perform-run-requires
+perform-run-requires g c = let a = c.args in let M = g.M.Media.outside in let W = g.W.Sink.outside in let new = c.controlled-edition.result in let run = c.in-Ok.started.run in let started = c.in-Ok.ensures.started in
+    let told = c.requires.1.1.1.1 in λ κs k. (
+      k.0,
+      (
+        k.1,
+        (
+          play.under_way_first M W g.begun new a.sources a.cycles a.media a.master run started told (c.controlled-edition.ensures.controlled.edits a.cycles ∙ sym c.requires.1.1.1.0),
+          play.fresh_first M W g.begun new a.sources a.cycles a.media a.master run started told,
+        ),
+      ),
+    )
 
 pub close-closed-requires : goal.close-closed-requires
-close-closed-requires g c = let s = c.requires.0 in let may = c.requires.1 in let a = c.args in let new = c.controlled-edition.result in let begun = c.in-Ok.started.run in let made = c.perform-run.result in let p = c.perform-run.ensures in let controlled = c.controlled-edition.ensures.controlled s may.edition_of in
-    let started = c.in-Ok.ensures.started s (play.may_start s a.edition a.sources a.cycles a.script.from new may controlled c.controlled-edition.ensures.still_open c.controlled-edition.ensures.recording) in
-    (s, p.carries.runs s (play.runs_first s a.script.from a.cycles a.edition a.sources a.media a.master begun may new controlled started))
+close-closed-requires g c = λ κs k. (k.0, (k.1, c.perform-run.ensures.performing.under_way))
 
-pub part-requires-clause-closes : goal.part-requires-clause-closes
-part-requires-clause-closes g c = let s = c.requires.0 in let may = c.requires.1 in let a = c.args in let new = c.controlled-edition.result in let begun = c.in-Ok.started.run in let made = c.perform-run.result in let p = c.perform-run.ensures in let controlled = c.controlled-edition.ensures.controlled s may.edition_of in
-    let started = c.in-Ok.ensures.started s (play.may_start s a.edition a.sources a.cycles a.script.from new may controlled c.controlled-edition.ensures.still_open c.controlled-edition.ensures.recording) in
-    (s, c.close-closed.ensures.shuts.closes s (p.carries.runs s (play.runs_first s a.script.from a.cycles a.edition a.sources a.media a.master begun may new controlled started)))
+pub part-requires : goal.part-requires
+part-requires g c = let lists = c.in-Ok.ensures.lists in let closed = c.close-closed.ensures.closed in λ κs k. (
+  k.0,
+  (
+    k.1,
+    (
+      closed,
+      record {
+        no_rings = ap (λ (x : RunLists). x.rings.items) lists;
+        rings_room = omega (
+          arith,
+          closed.closing.closes.serving.sends,
+          ap (λ (x : RunLists). x.rings.room) lists,
+          ap (λ (z : Session). length z.tracks.items) (session_is g.begun.session c.controlled-edition.result c.controlled-edition.ensures.controlled.edition_of),
+        );
+        no_edits = ap (λ (x : RunLists). x.edits.items) lists;
+        edits_room = omega (arith, ap (λ (x : RunLists). x.edits.room) lists);
+      },
+    ),
+  ),
+)
 
-pub part-requires-clause-control : goal.part-requires-clause-control
-part-requires-clause-control g c = let s = c.requires.0 in let may = c.requires.1 in let a = c.args in let new = c.controlled-edition.result in let begun = c.in-Ok.started.run in let made = c.perform-run.result in let p = c.perform-run.ensures in let controlled = c.controlled-edition.ensures.controlled s may.edition_of in
-    let started = c.in-Ok.ensures.started s (play.may_start s a.edition a.sources a.cycles a.script.from new may controlled c.controlled-edition.ensures.still_open c.controlled-edition.ensures.recording) in
-    c.close-closed.ensures.shuts.control s (p.carries.runs s (play.runs_first s a.script.from a.cycles a.edition a.sources a.media a.master begun may new controlled started))
+pub returns-clause-left : goal.returns-clause-left
+returns-clause-left g c = let a = c.args in let M = g.M.Media.outside in let W = g.W.Sink.outside in let run = c.in-Ok.started.run in let p = c.perform-run.ensures in
+    let fresh = play.fresh_first M W g.begun c.controlled-edition.result a.sources a.cycles a.media a.master run c.in-Ok.ensures.started c.requires.1.1.1.1 in
+    play.is_left M W g.begun a.script.from a.cycles c.requires.1.1.1.0 run c.perform-run.result fresh p.performing p.makes c.close-closed.result c.close-closed.ensures.closed c.close-closed.ensures.leaves
+    c.part.result c.part.ensures.gives_back c.part.ensures.joins
 
-pub part-requires-clause-tracks : goal.part-requires-clause-tracks
-part-requires-clause-tracks g c = let s = c.requires.0 in let may = c.requires.1 in let a = c.args in let new = c.controlled-edition.result in let begun = c.in-Ok.started.run in let made = c.perform-run.result in let p = c.perform-run.ensures in let controlled = c.controlled-edition.ensures.controlled s may.edition_of in
-    let started = c.in-Ok.ensures.started s (play.may_start s a.edition a.sources a.cycles a.script.from new may controlled c.controlled-edition.ensures.still_open c.controlled-edition.ensures.recording) in
-    c.close-closed.ensures.shuts.takes s (p.carries.runs s (play.runs_first s a.script.from a.cycles a.edition a.sources a.media a.master begun may new controlled started))
+pub returns-clause-only_reads : goal.returns-clause-only_reads
+returns-clause-only_reads g c = let a = c.args in let M = g.M.Media.outside in let W = g.W.Sink.outside in let run = c.in-Ok.started.run in let p = c.perform-run.ensures in
+    let fresh = play.fresh_first M W g.begun c.controlled-edition.result a.sources a.cycles a.media a.master run c.in-Ok.ensures.started c.requires.1.1.1.1 in
+    play.only_reads M W g.begun a.script.from a.cycles c.requires.1.1.1.0 run c.perform-run.result fresh p.performing p.makes c.close-closed.result c.close-closed.ensures.closed c.close-closed.ensures.leaves
+    c.part.result c.part.ensures.gives_back c.part.ensures.joins a.media c.in-Ok.ensures.started.media_is
 
-pub part-requires-clause-rings_room : goal.part-requires-clause-rings_room
-part-requires-clause-rings_room g c = let s = c.requires.0 in let may = c.requires.1 in let a = c.args in let new = c.controlled-edition.result in let begun = c.in-Ok.started.run in let made = c.perform-run.result in let p = c.perform-run.ensures in let controlled = c.controlled-edition.ensures.controlled s may.edition_of in
-    let started = c.in-Ok.ensures.started s (play.may_start s a.edition a.sources a.cycles a.script.from new may controlled c.controlled-edition.ensures.still_open c.controlled-edition.ensures.recording) in
-    let runs = p.carries.runs s (play.runs_first s a.script.from a.cycles a.edition a.sources a.media a.master begun may new controlled started) in
-    omega (arith, (c.close-closed.ensures.shuts.closes s runs).serving.sends, ap (λ (x : Shelves). x.rings.room) c.in-Ok.ensures.shelves, ap (λ (z : Session). length z.tracks.items) (session_is s new controlled.edition_of))
-
-pub part-requires-clause-backwards_room : goal.part-requires-clause-backwards_room
-part-requires-clause-backwards_room g c = let s = c.requires.0 in let may = c.requires.1 in let a = c.args in let new = c.controlled-edition.result in let begun = c.in-Ok.started.run in let made = c.perform-run.result in let p = c.perform-run.ensures in let controlled = c.controlled-edition.ensures.controlled s may.edition_of in
-    let started = c.in-Ok.ensures.started s (play.may_start s a.edition a.sources a.cycles a.script.from new may controlled c.controlled-edition.ensures.still_open c.controlled-edition.ensures.recording) in
-    let runs = p.carries.runs s (play.runs_first s a.script.from a.cycles a.edition a.sources a.media a.master begun may new controlled started) in
-    omega (arith, (c.close-closed.ensures.shuts.closes s runs).serving.sends, ap (λ (x : Shelves). x.backwards.room) c.in-Ok.ensures.shelves, ap (λ (z : Session). length z.tracks.items) (session_is s new controlled.edition_of))
-
-pub returns-clause-leaves : goal.returns-clause-leaves
-returns-clause-leaves g c = λ s may. let a = c.args in let new = c.controlled-edition.result in let begun = c.in-Ok.started.run in let made = c.perform-run.result in let p = c.perform-run.ensures in let M = g.M.Media in let closed = c.close-closed.result in let controlled = c.controlled-edition.ensures.controlled s may.edition_of in
-    let started = c.in-Ok.ensures.started s (play.may_start s a.edition a.sources a.cycles a.script.from new may controlled c.controlled-edition.ensures.still_open c.controlled-edition.ensures.recording) in
-    let runs = p.carries.runs s (play.runs_first s a.script.from a.cycles a.edition a.sources a.media a.master begun may new controlled started) in let shuts = c.close-closed.ensures.shuts in
-    play.leaves s a.script.from a.cycles a.edition a.sources a.media a.master begun may new controlled started M.tells M.files M.write_faults made p.carries p.makes p.faults closed c.close-closed.ensures.shuts c.part.result c.part.ensures.lasts
-    (p.plainly s) p.still_open (c.part.ensures.passed s (shuts.closes s runs) (shuts.still_true s runs)) c.part.ensures.still_open
-
-pub returns-clause-genuine : goal.returns-clause-genuine
-returns-clause-genuine g c = λ told s may. let a = c.args in let new = c.controlled-edition.result in let begun = c.in-Ok.started.run in let made = c.perform-run.result in let p = c.perform-run.ensures in let M = g.M.Media in let closed = c.close-closed.result in let controlled = c.controlled-edition.ensures.controlled s may.edition_of in
-    let started = c.in-Ok.ensures.started s (play.may_start s a.edition a.sources a.cycles a.script.from new may controlled c.controlled-edition.ensures.still_open c.controlled-edition.ensures.recording) in
-    let first = play.runs_first s a.script.from a.cycles a.edition a.sources a.media a.master begun may new controlled started in let runs = p.carries.runs s first in let shuts = c.close-closed.ensures.shuts in
-    play.genuine_last s a.script.from a.cycles a.edition a.sources a.media a.master begun may new controlled started M.tells M.files M.write_faults made p.carries p.makes p.faults closed c.close-closed.ensures.shuts c.part.result c.part.ensures.lasts
-    (c.part.ensures.genuine s (shuts.closes s runs) (shuts.genuine told s runs (p.carries.genuine told s first (play.genuine_first s a.script.from a.cycles a.edition a.sources a.media a.master begun may new controlled started M.files))))
-
-pub returns-clause-master : goal.returns-clause-master
-returns-clause-master g c = λ told tells s may. let a = c.args in let new = c.controlled-edition.result in let begun = c.in-Ok.started.run in let made = c.perform-run.result in let p = c.perform-run.ensures in let M = g.M.Media in let closed = c.close-closed.result in let controlled = c.controlled-edition.ensures.controlled s may.edition_of in
-    let started = c.in-Ok.ensures.started s (play.may_start s a.edition a.sources a.cycles a.script.from new may controlled c.controlled-edition.ensures.still_open c.controlled-edition.ensures.recording) in
-    let first = play.runs_first s a.script.from a.cycles a.edition a.sources a.media a.master begun may new controlled started in
-    play.master_last s a.script.from a.cycles a.edition a.sources a.media a.master begun may new controlled started M.tells M.files M.write_faults made p.carries p.makes p.faults closed c.close-closed.ensures.shuts c.part.result c.part.ensures.lasts
-    g.W.Sink.held (p.written told tells s first (play.genuine_first s a.script.from a.cycles a.edition a.sources a.media a.master begun may new controlled started M.files))
-
-pub returns-clause-front : goal.returns-clause-front
-returns-clause-front g c = λ told tells s may. let a = c.args in let new = c.controlled-edition.result in let begun = c.in-Ok.started.run in let made = c.perform-run.result in let p = c.perform-run.ensures in let M = g.M.Media in let closed = c.close-closed.result in let controlled = c.controlled-edition.ensures.controlled s may.edition_of in
-    let started = c.in-Ok.ensures.started s (play.may_start s a.edition a.sources a.cycles a.script.from new may controlled c.controlled-edition.ensures.still_open c.controlled-edition.ensures.recording) in
-    let first = play.runs_first s a.script.from a.cycles a.edition a.sources a.media a.master begun may new controlled started in
-    play.cut_last s a.script.from a.cycles a.edition a.sources a.media a.master begun may new controlled started M.tells M.files M.write_faults made p.carries p.makes p.faults closed c.close-closed.ensures.shuts c.part.result c.part.ensures.lasts
-    g.W.Sink.held (p.cut told tells s first (play.genuine_first s a.script.from a.cycles a.edition a.sources a.media a.master begun may new controlled started M.files))
-
-pub returns-clause-reads : goal.returns-clause-reads
-returns-clause-reads g c = let s = c.requires.0 in let may = c.requires.1 in let a = c.args in let new = c.controlled-edition.result in let begun = c.in-Ok.started.run in let made = c.perform-run.result in let p = c.perform-run.ensures in let M = g.M.Media in let closed = c.close-closed.result in let controlled = c.controlled-edition.ensures.controlled s may.edition_of in
-    let started = c.in-Ok.ensures.started s (play.may_start s a.edition a.sources a.cycles a.script.from new may controlled c.controlled-edition.ensures.still_open c.controlled-edition.ensures.recording) in
-    play.reads_counted s a.script.from a.cycles a.edition a.sources a.media a.master begun may new controlled started M.tells M.files M.write_faults made p.carries p.makes p.faults closed c.close-closed.ensures.shuts c.part.result c.part.ensures.lasts
-    M.read_faults p.reads c.close-closed.ensures.reads
-
-pub returns-clause-writes : goal.returns-clause-writes
-returns-clause-writes g c = let s = c.requires.0 in let may = c.requires.1 in let a = c.args in let new = c.controlled-edition.result in let begun = c.in-Ok.started.run in let made = c.perform-run.result in let p = c.perform-run.ensures in let M = g.M.Media in let closed = c.close-closed.result in let controlled = c.controlled-edition.ensures.controlled s may.edition_of in
-    let started = c.in-Ok.ensures.started s (play.may_start s a.edition a.sources a.cycles a.script.from new may controlled c.controlled-edition.ensures.still_open c.controlled-edition.ensures.recording) in
-    play.writes_counted s a.script.from a.cycles a.edition a.sources a.media a.master begun may new controlled started M.tells M.files M.write_faults made p.carries p.makes p.faults closed c.close-closed.ensures.shuts c.part.result c.part.ensures.lasts
-    g.W.Sink.faults p.writes
-
-pub returns-clause-files : goal.returns-clause-files
-returns-clause-files g c = let s = c.requires.0 in let may = c.requires.1 in let a = c.args in let new = c.controlled-edition.result in let begun = c.in-Ok.started.run in let made = c.perform-run.result in let p = c.perform-run.ensures in let M = g.M.Media in let closed = c.close-closed.result in let controlled = c.controlled-edition.ensures.controlled s may.edition_of in
-    let started = c.in-Ok.ensures.started s (play.may_start s a.edition a.sources a.cycles a.script.from new may controlled c.controlled-edition.ensures.still_open c.controlled-edition.ensures.recording) in
-    play.files_last s a.script.from a.cycles a.edition a.sources a.media a.master begun may new controlled started M.tells M.files M.write_faults made p.carries p.makes p.faults closed c.close-closed.ensures.shuts c.part.result c.part.ensures.lasts
-
-pub returns-clause-other_count : goal.returns-clause-other_count
-returns-clause-other_count g c = let s = c.requires.0 in let may = c.requires.1 in let a = c.args in let new = c.controlled-edition.result in let begun = c.in-Ok.started.run in let made = c.perform-run.result in let p = c.perform-run.ensures in let M = g.M.Media in let closed = c.close-closed.result in let controlled = c.controlled-edition.ensures.controlled s may.edition_of in
-    let started = c.in-Ok.ensures.started s (play.may_start s a.edition a.sources a.cycles a.script.from new may controlled c.controlled-edition.ensures.still_open c.controlled-edition.ensures.recording) in
-    play.writes_last s a.script.from a.cycles a.edition a.sources a.media a.master begun may new controlled started M.tells M.files M.write_faults made p.carries p.makes p.faults closed c.close-closed.ensures.shuts c.part.result c.part.ensures.lasts
+pub returns-clause-acks : goal.returns-clause-acks
+returns-clause-acks g c = c.part.ensures.gives_back.whole

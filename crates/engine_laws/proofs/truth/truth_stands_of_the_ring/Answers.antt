@@ -1,5 +1,5 @@
 -- The law as its lemma has it.
-use Rattle.engine_laws.proofs.TruthLemmas as lemmas
+use Rattle.engine_laws.proofs.TruthfulLemmas as lemmas
 use Rattle.engine_laws.proofs.truth.truth_stands_of_the_ring.Goals as goal
 
 -- src/truth.rt

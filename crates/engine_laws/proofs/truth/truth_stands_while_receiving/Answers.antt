@@ -1,5 +1,5 @@
 -- The law as its lemma has it.
-use Rattle.engine_laws.proofs.TruthLemmas as lemmas
+use Rattle.engine_laws.proofs.TruthfulLemmas as lemmas
 use Rattle.engine_laws.proofs.truth.truth_stands_while_receiving.Goals as goal
 
 -- src/truth.rt

@@ -1,5 +1,5 @@
 use Rattle.std.proofs.Common.{◌≡◌, length, ◌-◌, ◌+◌, ◌^◌}
-use Rattle.process_cycle.specs.declared.deck.Hand.TheVariants.{Husk}
+use Rattle.process_cycle.specs.declared.playback.SpareBox.TheVariants.{Husk}
 use Rattle.process_cycle.specs.Looks.{Offers}
 use Rattle.process_cycle.proofs.looking.take_all.Given as goal
 

@@ -8,9 +8,9 @@ use Rattle.process_cycle.proofs.mixing.add_track.Goals as goal
 
 pub returns-in-Some : goal.returns-in-Some
 returns-in-Some c = λ r is. subst (λ xs. AreAdded c.args.sums.now xs c.add.new.sums)
-    (c.as_slice.ensures.items ∙ sym (samples_by_all c.args.at r c.args.deck.now c.requires.some is (Some (item_of c.in-Some.piece.now))
+    (c.as_slice.ensures.items ∙ sym (samples_by_all c.args.at r c.args.playback.now c.requires.some is (Some (item_of c.in-Some.piece.now))
     (c.in-Some.ensures.piece is.played.shows.given is.played.shows.window))) c.add.ensures
 
 pub returns-in_default : goal.returns-in_default
 returns-in_default c = λ r is. subst (λ xs. AreAdded c.args.sums.now xs c.args.sums.now)
-    (sym (samples_by_all c.args.at r c.args.deck.now c.requires.some is None (c.in_default.ensures.piece is.played.shows.given is.played.shows.window))) (adds_none c.args.sums.now)
+    (sym (samples_by_all c.args.at r c.args.playback.now c.requires.some is None (c.in_default.ensures.piece is.played.shows.given is.played.shows.window))) (adds_none c.args.sums.now)

@@ -4,13 +4,13 @@ use Rattle.butler.proofs.FirstLemmas.{first_stocked, first_serving}
 use Rattle.butler.proofs.butler.Butler.new.Goals as goal
 
 pub invariant_of-result : goal.invariant_of-result
-invariant_of-result g c = let may = c.requires in (
-  first_stocked may.0 c.args.e.now c.args.sources c.args.cycles c.args.ends c.in-Ok.supplies.items c.supplies.ensures.seen may.1 c.in-Ok.ensures.first,
+invariant_of-result g c = (
+  first_stocked g.s c.args.e.now c.args.sources c.args.cycles c.args.ends c.in-Ok.supplies.items c.supplies.ensures.seen c.requires.1 c.in-Ok.ensures.first,
   ap length c.in-Ok-table.ensures ∙ length-replicate {A = ℕ} 10001 0,
   refl,
-  sym may.1.not_ended,
+  sym c.requires.1.not_ended,
 )
 
 pub returns-clause-serving : goal.returns-clause-serving
-returns-clause-serving g c = λ s may. first_serving s c.args.e.now c.args.media c.args.sources c.args.cycles c.args.ends c.in-Ok.supplies.items c.in-Ok-table.nexts.items
-    c.supplies.ensures.seen may c.in-Ok.ensures.first c.in-Ok-table.ensures
+returns-clause-serving g c = first_serving g.s c.args.e.now c.args.media c.args.sources c.args.cycles c.args.ends c.in-Ok.supplies.items c.in-Ok-table.nexts.items
+    c.supplies.ensures.seen c.requires.1 c.in-Ok.ensures.first c.in-Ok-table.ensures

@@ -14,11 +14,11 @@ returns-then-part-clause-told g c = λ t. let r = region_of c.args.region.now in
       begins = c.covered-part.ensures.begin;
       ends = c.covered-part.ensures.end;
       silent = c.silence_around.ensures;
-    } in laws.all_silent (source_sound (g.M.Media.files c.args.media.now) c.args.sources.now) r c.args.place (length c.args.out.now) part.begin part.end c.silence_around.new.out is c.if-part.true
+    } in laws.all_silent (source_sound (g.M.Media.outside.files c.args.media.now) c.args.sources.now) r c.args.place (length c.args.out.now) part.begin part.end c.silence_around.new.out is c.if-part.true
 
 pub returns-clause-told : goal.returns-clause-told
 returns-clause-told g c = λ t. let r = region_of c.args.region.now in let part = c.covered-part.result in
-    let sounds = source_sound (g.M.Media.files c.args.media.now) c.args.sources.now in
+    let sounds = source_sound (g.M.Media.outside.files c.args.media.now) c.args.sources.now in
     let is : IsPart r c.args.place (length c.args.out.now) part.begin part.end c.silence_around.new.out = record {
       long = c.silence_around.auto.out;
       begins = c.covered-part.ensures.begin;

@@ -1,21 +1,19 @@
-use Rattle.std.proofs.Common.{◌≡◌, ◌++◌, ap}
 use Rattle.process_cycle.specs.Made.{header_bytes}
-use Rattle.ses_io.specs.Streams.{AppendsSome}
 use Rattle.engine_core.proofs.PerformLemmas as perform
-use Rattle.engine_core.proofs.SerialLemmas as serial
+use Rattle.engine_core.proofs.RunningLemmas as running
 use Rattle.engine_core.proofs.serial.Run.begin.Goals as goal
 
 -- src/performing.rt
-pub returns-clause-gains : goal.returns-clause-gains
-returns-clause-gains g c = let self = c.args.self in let p = c.begin-answer.new.self in let held = g.W.Sink.held in record {
-  same = ap (λ q. record self { core = record self.core { process = q }; faults = record self.faults { master = c.failed-run.result } }) c.begin-answer.ensures.same;
-  given = λ tells master. serial.did_not c.begin-answer.result self.faults.master _ c.failed-run.ensures master (held p.master ≡ held self.core.process.master ++ header_bytes self.core.process)
-      (c.begin-answer.ensures.header tells);
-  front = λ tells fine bad. serial.did c.begin-answer.result self.faults.master _ c.failed-run.ensures bad fine (AppendsSome (held self.core.process.master) (held p.master) (header_bytes self.core.process)) (c.begin-answer.ensures.front tells);
-  stays = serial.had_not c.begin-answer.result self.faults.master _ c.failed-run.ensures;
-  runs = λ s runs. perform.runs_on s self.core p c.begin-answer.ensures.same (c.begin-answer.ensures.playing s self.core.edition.edits runs.playing) runs;
-}
+pub begin-answer-requires : goal.begin-answer-requires
+begin-answer-requires g c = let core = c.args.self.core in let is = c.requires.1.1.running in λ κs w.
+    (w, (is.runs.serving.plain, running.plays_begun g.begun core.edition.edits is.sends.edits core.process is.runs.playing))
 
-pub returns-clause-writes : goal.returns-clause-writes
-returns-clause-writes g c = λ before counted. let self = c.args.self in let faults = g.W.Sink.faults in serial.counted_on c.begin-answer.result self.faults.master _ c.failed-run.ensures before
-    (faults self.core.process.master) (faults c.begin-answer.new.self.master) counted c.begin-answer.ensures.cause
+pub returns-clause-under_way : goal.returns-clause-under_way
+returns-clause-under_way g c = let self = c.args.self in let did = c.begin-answer.ensures in
+    perform.under_way_from g.M.Media.outside g.W.Sink.outside g.begun (header_bytes self.core.process) self c.begin-answer.new.self c.begin-answer.result c.failed-run.result c.failed-run.ensures did.same
+    (running.plays_still g.begun self.core.edition.edits c.requires.1.1.running.sends.edits self.core.process c.requires.1.1.running.runs.playing c.begin-answer.new.self (λ was. did.playing)) did.writes c.requires.1.1
+
+pub returns-clause-gets : goal.returns-clause-gets
+returns-clause-gets g c = let self = c.args.self in let did = c.begin-answer.ensures in
+    perform.gets_from g.W.Sink.outside (header_bytes self.core.process) self c.begin-answer.new.self c.begin-answer.result c.failed-run.result c.failed-run.ensures did.same
+    did.writes

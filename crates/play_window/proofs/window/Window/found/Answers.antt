@@ -1,7 +1,7 @@
 use Rattle.std.proofs.Common.{◌≡◌, ℕ, length, ◌%◌, ap, ◌∙◌, sym, subst, arith}
 use Rattle.std.specs.Prelude.{slice_get}
 use Rattle.disk_ring.specs.Rings.{AllOfRoom}
-use Rattle.play_window.specs.Seen.{piece_in}
+use Rattle.play_window.specs.WindowState.{piece_in}
 use Rattle.play_window.proofs.window.Window.found.Goals as goal
 
 pub returns-clause-piece : goal.returns-clause-piece

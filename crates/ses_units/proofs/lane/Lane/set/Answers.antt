@@ -33,11 +33,11 @@ invariant_of-self-in-Err c =
       omega (arith, c.self.invariant.1),
     )
 
-pub returns-else-len-eq-MOST-clause-points : goal.returns-else-len-eq-MOST-clause-points
-returns-else-len-eq-MOST-clause-points c =
+pub returns-else-len-eq-POINTS-clause-points : goal.returns-else-len-eq-POINTS-clause-points
+returns-else-len-eq-POINTS-clause-points c =
     let missing = rw c.deref.ensures.value at c.in-Err.ensures in
     let items : c.insert.new.self.items ≡ insert c.self.inside.points.items c.in-Err.i c.args.p = search rules in
     rw items (with_point-insert c.self.inside.points.items c.in-Err.i c.args.p missing.missing ∙ ap (λ ps. with_point ps (point_of c.args.p)) c.self.view_is)
 
-pub returns-else-len-eq-MOST-clause-gains : goal.returns-else-len-eq-MOST-clause-gains
-returns-else-len-eq-MOST-clause-gains c = ChangesGain-set _ _ (point_of c.args.p) (returns-else-len-eq-MOST-clause-points c)
+pub returns-else-len-eq-POINTS-clause-gains : goal.returns-else-len-eq-POINTS-clause-gains
+returns-else-len-eq-POINTS-clause-gains c = ChangesGain-set _ _ (point_of c.args.p) (returns-else-len-eq-POINTS-clause-points c)

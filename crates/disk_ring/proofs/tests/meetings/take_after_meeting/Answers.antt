@@ -1,5 +1,0 @@
-use Rattle.disk_ring.proofs.Meetings.{all_received}
-use Rattle.disk_ring.proofs.tests.meetings.take_after_meeting.Goals as goal
-
-pub returns-in-Err-clause-none : goal.returns-in-Err-clause-none
-returns-in-Err-clause-none c = all_received _ _ _ _ _ _ c.meet.ensures.met c.meet.ensures.receiver c.in-Err.ensures.answer

@@ -1,5 +1,0 @@
-use Rattle.std.proofs.Common.{refl}
-use Rattle.disk_ring.proofs.tests.new_ring.Goals as goal
-
-pub returns-clause-room : goal.returns-clause-room
-returns-clause-room c = c.in_ok-to.ensures.room 0 (λ k d near. refl)

@@ -1,5 +1,0 @@
-use Rattle.std.proofs.Common.{◌≡◌}
-use Rattle.disk_ring.proofs.tests.threads.take_all.Given as goal
-
-abbrev pub invariant-loop : goal.invariant-loop
-invariant-loop g l = (l.from.room ≡ 0) × (l.from.ring ≡ l.initial.from.ring)

@@ -1,7 +1,0 @@
--- The law as its lemma has it.
-use Rattle.engine_laws.proofs.EntryLemmas as lemmas
-use Rattle.engine_laws.proofs.standing.stands_with_its_entry.Goals as goal
-
--- src/standing.rt
-pub returns : goal.returns
-returns c = lemmas.stands_with_its_entry

@@ -1,0 +1,2 @@
+-- Why a worker on a bench may begin.
+mod FixtureLemmas

@@ -1,0 +1,2 @@
+-- What is so of a worker on a bench.
+pub mod ButlerFixture

@@ -1,0 +1,2 @@
+-- Lemmas of the tests of the ground.
+mod BoxLemmas

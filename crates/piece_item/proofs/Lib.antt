@@ -1,2 +1,0 @@
--- What tests of the boxes rest on.
-mod TestLemmas

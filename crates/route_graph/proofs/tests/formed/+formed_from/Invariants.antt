@@ -1,5 +1,0 @@
-use Rattle.std.proofs.Common.{length}
-use Rattle.route_graph.proofs.tests.formed.+formed_from.Given as goal
-
-abbrev pub decreases-formed_from : goal.decreases-formed_from
-decreases-formed_from l = length l.routes.now

@@ -1,0 +1,92 @@
+-- What an export opens, or the first thing that keeps it from being opened, by the words and the files (own).
+use Rattle.std.specs.Prelude.{ℕ, nat_lt, if◌then◌else◌, List, [], ◌∷◌, length, Option, Some, None, Result, Ok, Err}
+use Rattle.sound_model.specs.Wav.{Head}
+use Rattle.ses_io.specs.Files.{Files}
+use Rattle.session_model.specs.declared.refusal.SessionRefusal.{SessionRefusal}
+use Rattle.session_model.specs.declared.refusal.SessionRefusal.TheVariants.{Absent, TooLong}
+use Rattle.session_model.specs.declared.session.Session.{Session}
+use Rattle.session_model.specs.declared.session.SourceDecl.{SourceDecl}
+use Rattle.engine_model.specs.PlainSession.{is_plain}
+use Rattle.session_walk.specs.Section.{Read}
+use Rattle.session_toml.specs.Session.{session}
+use Rattle.audio_source.specs.Refusals.{SourceRefusal, source_head}
+use Rattle.session_opening.specs.Words.{Export, command}
+
+pub data Wrong : Type 0 where
+  -- the words are no command
+  NoCommand : Wrong
+  -- the session's file is absent or too long, or its text breaks this rule
+  SessionRefused : SessionRefusal → Wrong
+  -- the session isn't in the form that is built
+  NotBuilt : Wrong
+  -- the file of the source of this name isn't opened
+  SourceRefused : List ℕ → SourceRefusal → Wrong
+
+-- what is opened, or the first thing that is wrong
+abbrev pub Open : Type 0 → Type 0
+Open A = Result A Wrong
+
+infixl 10 ◌>>=◌
+abbrev pub ◌>>=◌ : {A B : Type 0} → Open A → (A → Open B) → Open B
+(Ok x) >>= f = f x
+(Err w) >>= f = Err w
+
+-- ---- the session
+
+-- the text of a session's file, which has at most 8,388,608 bytes
+abbrev pub text_in : Option (List ℕ) → Open (List ℕ)
+text_in None = Err (SessionRefused Absent)
+text_in (Some bytes) = if nat_lt 8388608 (length bytes) then Err (SessionRefused (TooLong (length bytes))) else Ok bytes
+
+-- what a text is read as
+abbrev pub read : Read Session → Open Session
+read (Ok s) = Ok s
+read (Err refusal) = Err (SessionRefused refusal)
+
+abbrev pub plain : Session → Open Session
+plain s = if is_plain s then Ok s else Err NotBuilt
+
+-- the session of a file
+unfoldable pub session_in : Option (List ℕ) → Open Session
+session_in file = do
+  text ← text_in file
+  s ← read (session text)
+  plain s
+
+-- ---- its sources
+
+-- a source whose file has a head, of the session's rate and the source's channels
+abbrev pub found : List ℕ → Result Head SourceRefusal → Open (Unit {0})
+found name (Ok head) = Ok tt
+found name (Err why) = Err (SourceRefused name why)
+
+abbrev pub source_in : Files → ℕ → SourceDecl → Open (Unit {0})
+source_in files rate d = found d.name (source_head rate d.channels (files d.file))
+
+-- all sources, or the first that isn't opened
+abbrev pub sources_in : Files → ℕ → List SourceDecl → Open (Unit {0})
+sources_in files rate [] = Ok tt
+sources_in files rate (d ∷ ds) = source_in files rate d >>= λ one. sources_in files rate ds
+
+-- ---- the whole
+
+pub record Plan : Type 0 where
+  pub session : Session
+  -- the first position, in frames
+  pub from : ℕ
+  pub cycles : ℕ
+
+-- what an export opens
+unfoldable pub plan_of_export : Files → Export → Open Plan
+plan_of_export files e = do
+  s ← session_in (files e.session)
+  sources ← sources_in files s.rate s.sources.items
+  Ok (record { session = s; from = e.from; cycles = e.cycles })
+
+abbrev pub plan_for : Files → Option Export → Open Plan
+plan_for files None = Err NoCommand
+plan_for files (Some e) = plan_of_export files e
+
+-- what the words open
+unfoldable pub plan_of : Files → List (List ℕ) → Open Plan
+plan_of files words = plan_for files (command words)

@@ -1,0 +1,118 @@
+//! What an export plays: edition 0 of its session, and its sources, or the first thing that is wrong.
+ghost use Rattle.std.specs.Prelude.{◌≡◌, true, IfOk};
+ghost use Rattle.session_model.specs.Valid.{IsValid};
+ghost use Rattle.engine_model.specs.PlainSession.{is_plain};
+ghost use Rattle.audio_source.specs.Opened.{IsListed, IsOpened};
+ghost use Rattle.session_opening.specs.Answers.{Gives, IsLoaded, HasHeads, Caused, plan_from, refusal_at};
+ghost use Rattle.session_opening.specs.Plan as spec;
+ghost use Rattle.session_opening.specs.Spoken.{export_view};
+ghost use Rattle.ses_io.specs.Outside.{OnlyReads};
+
+use crate::plain::is_plain;
+use crate::reading::read_whole;
+use crate::unopened::Unopened;
+use crate::words::Export;
+use audio_source::{FileRefusal, OpenRefusal, Sources};
+use edition_log::Edition;
+use ses_io::Media;
+use ses_units::limits::SESSION_BYTES;
+use session_model::{Session, SessionRefusal, SourceDecl};
+use session_toml::session_of;
+use std::alloc::Global;
+
+/// What an export plays.
+#[derive(Drop)]
+pub struct Loaded {
+    /// Edition 0 of the session.
+    pub edition: Edition,
+    /// The sources of the session, in their order.
+    pub sources: Sources,
+}
+
+// The text of the session's file.
+fn text_in<M: Media>(alloc: Global, media: &mut M, name: &str) -> Result<Vec<u8>, Unopened>
+    ensures told { M.outside.tells
+        → Gives (λ v. v.items) (spec.text_in (M.outside.files media.old name.now)) result }
+    ensures only_reads { OnlyReads M.outside media.old media.new }
+    ensures cause { Caused (M.outside.read_faults media.old) (M.outside.read_faults media.new) result }
+{
+    let Some(size) = media.size(name)? else {
+        return Err(Unopened::Session(SessionRefusal::Absent));
+    };
+    if size > SESSION_BYTES {
+        return Err(Unopened::Session(SessionRefusal::TooLong(size)));
+    }
+    let text = read_whole(alloc, media, name, size)?;
+    Ok(text)
+}
+
+// The session of a file, where it is in the form that is built.
+#[tactic(auto, unfolding(crate::specs::Plan::session_in))]
+fn session_in<M: Media>(alloc: Global, media: &mut M, name: &str) -> Result<Session, Unopened>
+    ensures told { M.outside.tells
+        → Gives (λ s. s) (spec.session_in (M.outside.files media.old name.now)) result }
+    ensures valid { IfOk result IsValid }
+    ensures plain { IfOk result (λ s. is_plain s ≡ true) }
+    ensures only_reads { OnlyReads M.outside media.old media.new }
+    ensures cause { Caused (M.outside.read_faults media.old) (M.outside.read_faults media.new) result }
+{
+    let text = text_in(alloc, media, name)?;
+    let session = session_of(alloc, &text)?;
+    if !is_plain(&session) {
+        return Err(Unopened::NotBuilt);
+    }
+    Ok(session)
+}
+
+// The refusal of the source at that place.
+fn refused(sources: &[SourceDecl], place: u32, why: FileRefusal) -> Unopened
+    ensures { result ≡ refusal_at sources.now place why }
+{
+    match sources.get(place as usize) {
+        Some(source) => Unopened::Source(source.name, why),
+        // Only a source of the session is refused.
+        None => Unopened::NoMemory,
+    }
+}
+
+// The sources of the session.
+fn sources_in<M: Media>(
+    alloc: Global,
+    media: &mut M,
+    session: &Session,
+) -> Result<Sources, Unopened>
+    ensures told { M.outside.tells → Gives (λ o. tt)
+        (spec.sources_in (M.outside.files media.old) session.now.rate session.now.sources.items) result }
+    ensures listed { IfOk result (IsListed session.now.rate session.now.sources.items) }
+    ensures heads { M.outside.tells → IfOk result
+        (IsOpened (M.outside.files media.old) session.now.rate session.now.sources.items) }
+    ensures only_reads { OnlyReads M.outside media.old media.new }
+    ensures cause { Caused (M.outside.read_faults media.old) (M.outside.read_faults media.new) result }
+{
+    match Sources::new(alloc, media, &session.sources, session.rate) {
+        Ok(sources) => Ok(sources),
+        Err(OpenRefusal::File { source, why }) => {
+            Err(refused(session.sources.as_slice(), source, why))
+        }
+        Err(OpenRefusal::ReadFault) => Err(Unopened::ReadFault),
+        Err(OpenRefusal::NoMemory) => Err(Unopened::NoMemory),
+    }
+}
+
+/// Opens what an export plays: its session, and the files of its sources, by their heads. What is wrong is told in this
+/// order: the session's file, its text, its form, the first source, in their order, whose file isn't opened. It takes
+/// the memory of the session, of its editions and of all later reads of the sources.
+#[tactic(auto, unfolding(crate::specs::Plan::plan_of_export))]
+pub fn open<M: Media>(alloc: Global, media: &mut M, export: &Export<'_>) -> Result<Loaded, Unopened>
+    ensures told { M.outside.tells → Gives (plan_from (export_view export.now))
+        (spec.plan_of_export (M.outside.files media.old) (export_view export.now)) result }
+    ensures played { IfOk result IsLoaded }
+    ensures heads { M.outside.tells → IfOk result (HasHeads (M.outside.files media.old)) }
+    ensures only_reads { OnlyReads M.outside media.old media.new }
+    ensures cause { Caused (M.outside.read_faults media.old) (M.outside.read_faults media.new) result }
+{
+    let session = session_in(alloc, media, export.session)?;
+    let sources = sources_in(alloc, media, &session)?;
+    let edition = Edition::opening(alloc, session)?;
+    Ok(Loaded { edition, sources })
+}

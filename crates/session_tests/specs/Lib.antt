@@ -1,0 +1,2 @@
+-- A session of the master alone, as tests make it.
+pub mod Alone
