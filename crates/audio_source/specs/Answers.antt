@@ -3,6 +3,7 @@ use Rattle.std.specs.Prelude.{◌≡◌, ℕ, ◌<◌, ◌≤◌, List, slice_ge
 use Rattle.sound_model.specs.Wav.{Head, Refusal}
 use Rattle.ses_io.specs.Faults.{risen}
 use Rattle.ses_io.specs.Files.{Files}
+use Rattle.ses_io.specs.Outside.{MediaOutside}
 use Rattle.wav_codec.specs.Info.{head_of}
 use Rattle.wav_codec.specs.Refusal.{refusal_of}
 use Rattle.wav_codec.specs.declared.info.WavInfo.{WavInfo}
@@ -24,10 +25,10 @@ TellsHead given (Ok info) = given ≡ Ok (head_of info)
 TellsHead given (Err (head_of_file.Refused e)) = given ≡ Err (refusal_of e)
 TellsHead given (Err head_of_file.Fault) = Unit {0}
 
-abbrev pub HeadCause : {A : Type 0} → ℕ → ℕ → Result A Unread → Type 0
-HeadCause before now (Ok a) = now ≡ before
-HeadCause before now (Err (head_of_file.Refused e)) = now ≡ before
-HeadCause before now (Err head_of_file.Fault) = risen before ≤ now
+abbrev pub HeadCause : {V A : Type 0} → MediaOutside V → V → V → Result A Unread → Type 0
+HeadCause outside old new (Ok a) = outside.read_faults new ≡ outside.read_faults old
+HeadCause outside old new (Err (head_of_file.Refused e)) = outside.read_faults new ≡ outside.read_faults old
+HeadCause outside old new (Err head_of_file.Fault) = risen (outside.read_faults old) ≤ outside.read_faults new
 
 -- ---- one source
 
@@ -36,10 +37,10 @@ TellsSource given (Ok info) = given ≡ Ok (head_of info)
 TellsSource given (Err (one.Refused why)) = given ≡ Err (why_of why)
 TellsSource given (Err one.Fault) = Unit {0}
 
-abbrev pub SourceCause : {A : Type 0} → ℕ → ℕ → Result A Unopened → Type 0
-SourceCause before now (Ok a) = now ≡ before
-SourceCause before now (Err (one.Refused why)) = now ≡ before
-SourceCause before now (Err one.Fault) = risen before ≤ now
+abbrev pub SourceCause : {V A : Type 0} → MediaOutside V → V → V → Result A Unopened → Type 0
+SourceCause outside old new (Ok a) = outside.read_faults new ≡ outside.read_faults old
+SourceCause outside old new (Err (one.Refused why)) = outside.read_faults new ≡ outside.read_faults old
+SourceCause outside old new (Err one.Fault) = risen (outside.read_faults old) ≤ outside.read_faults new
 
 -- a head that is judged by its rate and its channels
 abbrev pub TellsFitting : Result Head SourceRefusal → Result WavInfo FileRefusal → Type 0
@@ -71,8 +72,8 @@ NamesFirst files rate list ReadFault = Unit {0}
 NamesFirst files rate list NoMemory = Unit {0}
 
 -- a fault comes only where the count rose; else it stays
-abbrev pub OpenCause : {A : Type 0} → ℕ → ℕ → Result A OpenRefusal → Type 0
-OpenCause before now (Ok a) = now ≡ before
-OpenCause before now (Err (File source why)) = now ≡ before
-OpenCause before now (Err ReadFault) = risen before ≤ now
-OpenCause before now (Err NoMemory) = now ≡ before
+abbrev pub OpenCause : {V A : Type 0} → MediaOutside V → V → V → Result A OpenRefusal → Type 0
+OpenCause outside old new (Ok a) = outside.read_faults new ≡ outside.read_faults old
+OpenCause outside old new (Err (File source why)) = outside.read_faults new ≡ outside.read_faults old
+OpenCause outside old new (Err ReadFault) = risen (outside.read_faults old) ≤ outside.read_faults new
+OpenCause outside old new (Err NoMemory) = outside.read_faults new ≡ outside.read_faults old

@@ -12,7 +12,7 @@ use ses_io::{Failed, Media, read_at_full};
 use wav_codec::{Scan, Step, WavInfo, WavRefusal};
 
 /// Why the head of a file isn't read.
-#[derive(Clone, Copy, Debug, PartialEq, Eq)]
+#[derive(Clone, Copy, PartialEq, Eq)]
 pub(crate) enum Unread {
     /// It is the head of no WAV file that is read.
     Refused(WavRefusal),
@@ -41,7 +41,7 @@ fn step<M: Media>(media: &mut M, name: &str, scan: Scan) -> Result<Step, Unread>
     ensures told { M.outside.tells → Agrees scan (content (M.outside.files media.old) name.now)
         → TellsStep (content (M.outside.files media.old) name.now) result }
     ensures only_reads { OnlyReads M.outside media.old media.new }
-    ensures cause { HeadCause (M.outside.read_faults media.old) (M.outside.read_faults media.new) result }
+    ensures cause { HeadCause M.outside media.old media.new result }
 {
     let want = scan.want();
     let mut piece = [0; 16];
@@ -59,7 +59,7 @@ pub(crate) fn scanned<M: Media>(media: &mut M, name: &str, size: u64) -> Result<
     ensures told { M.outside.tells
         → TellsHead (head true (content (M.outside.files media.old) name.now)) result }
     ensures only_reads { OnlyReads M.outside media.old media.new }
-    ensures cause { HeadCause (M.outside.read_faults media.old) (M.outside.read_faults media.new) result }
+    ensures cause { HeadCause M.outside media.old media.new result }
 {
     let mut scan = Scan::new(Some(size));
     loop {

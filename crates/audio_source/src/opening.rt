@@ -13,7 +13,7 @@ use ses_io::{Failed, Media};
 use wav_codec::WavInfo;
 
 /// Why a source isn't opened.
-#[derive(Clone, Copy, Debug, PartialEq, Eq)]
+#[derive(Clone, Copy, PartialEq, Eq)]
 pub(crate) enum Unopened {
     Refused(FileRefusal),
     /// A read failed, and the media's count of them rose.
@@ -78,7 +78,7 @@ pub(crate) fn opened<M: Media>(
     ensures told { M.outside.tells
         → TellsSource (source_head rate channels (M.outside.files media.old name.now)) result }
     ensures only_reads { OnlyReads M.outside media.old media.new }
-    ensures cause { SourceCause (M.outside.read_faults media.old) (M.outside.read_faults media.new) result }
+    ensures cause { SourceCause M.outside media.old media.new result }
 {
     let Some(size) = media.size(name)? else {
         return Err(Unopened::Refused(FileRefusal::Absent));

@@ -5,33 +5,26 @@ use thiserror::Error;
 use wav_codec::WavRefusal;
 
 /// Why a source's file isn't opened: the first of these that holds.
-#[derive(Clone, Copy, Debug, PartialEq, Eq, Error)]
+#[derive(Clone, Copy, PartialEq, Eq)]
 pub enum FileRefusal {
     /// The media has no such file.
-    #[error("no such file")]
     Absent,
     /// Its head isn't read.
-    #[error("{0}")]
     Wav(WavRefusal),
     /// It has other frames per second than the session.
-    #[error("rate {has} where {want} is wanted")]
     RateDiffers { has: u32, want: u32 },
     /// It has other channels than the source.
-    #[error("{has} channels where {want} are wanted")]
     ChannelsDiffer { has: u16, want: u16 },
 }
 
 /// Why sources aren't opened.
-#[derive(Clone, Copy, Debug, PartialEq, Eq, Error)]
+#[derive(Clone, Copy, PartialEq, Eq)]
 pub enum OpenRefusal {
     /// The first source, by its index, whose file isn't opened.
-    #[error("source {source}: {why}")]
     File { source: u32, why: FileRefusal },
     /// A read failed, and the media's count of them rose.
-    #[error("a read failed")]
     ReadFault,
     /// There is no memory for the sources or their buffer.
-    #[error("no memory")]
     NoMemory,
 }
 

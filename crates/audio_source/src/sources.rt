@@ -1,8 +1,7 @@
 //! The sources of a session: all opened at once, their frames read through one buffer.
 ghost use Rattle.std.specs.Prelude.{◌≡◌, ◌%◌, ◌<◌, ◌≤◌, length, map, slice_index, IfOk, IfErr, OnOk, SomeIff, All};
 ghost use Rattle.wav_codec.specs.Info.{IsFound};
-ghost use Rattle.ses_io.specs.Faults.{HasCause};
-ghost use Rattle.ses_io.specs.Outside.{OnlyReads};
+ghost use Rattle.ses_io.specs.Outside.{OnlyReads, ReadCause};
 ghost use Rattle.session_model.specs.Frames.{interleaved, IsSample};
 ghost use Rattle.audio_source.specs.Answers.{NamesFirst, IsRefusalOf, OpenCause};
 ghost use Rattle.audio_source.specs.Opened.{opened_source, channels_of, IsListedAs, IsListed, IsOpenedAs, IsOpened};
@@ -51,7 +50,7 @@ fn entry_of<M: Media>(
     ensures refused { M.outside.tells
         → IfErr result (IsRefusalOf (M.outside.files media.old) rate d.now source) }
     ensures only_reads { OnlyReads M.outside media.old media.new }
-    ensures cause { OpenCause (M.outside.read_faults media.old) (M.outside.read_faults media.new) result }
+    ensures cause { OpenCause M.outside media.old media.new result }
 {
     let Ok(file) = FileName::new(alloc, d.file.as_str()) else {
         return Err(OpenRefusal::NoMemory);
@@ -73,11 +72,12 @@ fn all_entries<M: Media>(
     ensures found { IfOk result (λ v. All (λ e. IsFound e.info) v.items) }
     ensures listed { IfOk result (λ v. IsListed rate list.now.items (map opened_source v.items)) }
     ensures told { M.outside.tells → IfOk result
-        (λ v. IsOpened (M.outside.files media.old) rate list.now.items (map opened_source v.items)) }
+        (λ v. IsOpened (M.outside.files media.old) rate
+        list.now.items (map opened_source v.items)) }
     ensures refused { M.outside.tells → IfErr result
         (NamesFirst (M.outside.files media.old) rate list.now.items) }
     ensures only_reads { OnlyReads M.outside media.old media.new }
-    ensures cause { OpenCause (M.outside.read_faults media.old) (M.outside.read_faults media.new) result }
+    ensures cause { OpenCause M.outside media.old media.new result }
 {
     let mut entries = Vec::new(alloc);
     let decls = list.as_slice();
@@ -116,7 +116,7 @@ impl Sources {
         ensures refused { M.outside.tells
             → IfErr result (NamesFirst (M.outside.files media.old) rate list.now.items) }
         ensures only_reads { OnlyReads M.outside media.old media.new }
-        ensures cause { OpenCause (M.outside.read_faults media.old) (M.outside.read_faults media.new) result }
+        ensures cause { OpenCause M.outside media.old media.new result }
     {
         let entries = all_entries(alloc, media, list, rate)?;
         let room = 12_288 * usize::from(widest(&entries));
@@ -153,7 +153,7 @@ impl Sources {
         ensures range { OnOk result (All IsSample out.new) }
         ensures sources { self.new ≡ self.old }
         ensures only_reads { OnlyReads M.outside media.old media.new }
-        ensures cause { HasCause (M.outside.read_faults media.old) (M.outside.read_faults media.new) result }
+        ensures cause { ReadCause M.outside media.old media.new result }
     {
         let entry = &self.entries[source as usize];
         read_frames(media, entry, self.buffer.as_mut_slice(), from, out)?;

@@ -1,8 +1,7 @@
 //! Up to 4,096 frames of a source, read in one where the media gives them so, and 0 past the end.
 ghost use Rattle.std.specs.Prelude.{◌≡◌, ◌+◌, ◌-◌, ◌*◌, ◌/◌, ◌%◌, ◌<◌, ◌≤◌, ◌++◌, pos, length, take, drop, replicate, min, IfOk, OnOk, All};
 ghost use Rattle.sound_model.specs.Wav.{sound};
-ghost use Rattle.ses_io.specs.Faults.{HasCause};
-ghost use Rattle.ses_io.specs.Outside.{OnlyReads};
+ghost use Rattle.ses_io.specs.Outside.{OnlyReads, ReadCause};
 ghost use Rattle.ses_io.specs.Files.{content};
 ghost use Rattle.wav_codec.specs.Info.{head_of, IsFound};
 ghost use Rattle.wav_codec.specs.Samples.{samples_of};
@@ -26,7 +25,8 @@ fn deliver(info: &WavInfo, bytes: &[u8], out: &mut [i32])
     requires found { IsFound info.now }
     requires whole { length bytes.now % (info.now.bits / 8) ≡ 0 }
     requires room { length bytes.now / (info.now.bits / 8) ≤ length out.old }
-    ensures samples { out.new ≡ samples_of info.now.bits (length bytes.now / (info.now.bits / 8)) bytes.now
+    ensures samples { out.new ≡ samples_of info.now.bits (length bytes.now / (info.now.bits / 8))
+        bytes.now
         ++ replicate (length out.old - length bytes.now / (info.now.bits / 8)) (pos 0) }
     ensures range { All IsSample out.new }
 {
@@ -52,7 +52,7 @@ fn fetch<M: Media>(
     ensures told { M.outside.tells → IfOk result
         (IsPieceAt (head_of info.now) (content (M.outside.files media.old) name.now) from buf.new) }
     ensures only_reads { OnlyReads M.outside media.old media.new }
-    ensures cause { HasCause (M.outside.read_faults media.old) (M.outside.read_faults media.new) result }
+    ensures cause { ReadCause M.outside media.old media.new result }
 {
     let align = info.channels as usize * (info.bits / 8) as usize;
     let at = info.data_at + from * align as u64;
@@ -78,7 +78,7 @@ pub(crate) fn span<M: Media>(
         entry.now.info.channels from (length out.old)) }
     ensures range { OnOk result (All IsSample out.new) }
     ensures only_reads { OnlyReads M.outside media.old media.new }
-    ensures cause { HasCause (M.outside.read_faults media.old) (M.outside.read_faults media.new) result }
+    ensures cause { ReadCause M.outside media.old media.new result }
 {
     let info = &entry.info;
     let channels = info.channels as usize;

@@ -1,8 +1,7 @@
 //! Any number of frames of a source, by spans of up to 4,096.
 ghost use Rattle.std.specs.Prelude.{◌≡◌, ◌%◌, length, OnOk, All};
 ghost use Rattle.sound_model.specs.Wav.{sound};
-ghost use Rattle.ses_io.specs.Faults.{HasCause};
-ghost use Rattle.ses_io.specs.Outside.{OnlyReads};
+ghost use Rattle.ses_io.specs.Outside.{OnlyReads, ReadCause};
 ghost use Rattle.ses_io.specs.Files.{content};
 ghost use Rattle.wav_codec.specs.Info.{head_of};
 ghost use Rattle.session_model.specs.Frames.{interleaved, IsSample};
@@ -27,7 +26,7 @@ pub(crate) fn read_frames<M: Media>(
         entry.now.info.channels from (length out.old)) }
     ensures range { OnOk result (All IsSample out.new) }
     ensures only_reads { OnlyReads M.outside media.old media.new }
-    ensures cause { HasCause (M.outside.read_faults media.old) (M.outside.read_faults media.new) result }
+    ensures cause { ReadCause M.outside media.old media.new result }
 {
     let channels = entry.info.channels as usize;
     let mut done = 0;

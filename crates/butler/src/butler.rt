@@ -1,7 +1,6 @@
 //! A butler: in a turn it takes acknowledgements, enters the edition, and sends what is due of each track.
 ghost use Rattle.std.specs.Prelude.{◌≡◌, ◌<◌, false, length, IfOk, IfErr, Some};
-ghost use Rattle.ses_io.specs.Faults.{HasCause};
-ghost use Rattle.ses_io.specs.Outside.{OnlyReads};
+ghost use Rattle.ses_io.specs.Outside.{OnlyReads, ReadCause};
 ghost use Rattle.session_model.specs.declared.session.Session.{Session as Opening};
 ghost use Rattle.audio_source.specs.Told.{source_sound};
 ghost use Rattle.edition_log.specs.EditionState.{IsEditionState};
@@ -41,9 +40,19 @@ impl<M> Model for Butler<M> {
 
     ghost Value = { ButlerState M };
 
-    ghost view = { λ b. record { media = b.holds.reader.media; sources = b.holds.reader.sources; cycles = b.holds.cycles; ends = b.ends; supplies = b.holds.supplies.items; nexts = b.holds.nexts.items; failed = b.holds.failed } };
+    ghost view = { λ b. record {
+      media = b.holds.reader.media;
+      sources = b.holds.reader.sources;
+      cycles = b.holds.cycles;
+      ends = b.ends;
+      supplies = b.holds.supplies.items;
+      nexts = b.holds.nexts.items;
+      failed = b.holds.failed;
+    } };
 
-    ghost invariant = { λ b. AreStocked b.holds.supplies.items b.ends.sends.items × (length b.holds.nexts.items ≡ 10001) × IsSome b.holds.husk × (b.holds.ended ≡ b.ends.acks.ended) };
+    ghost invariant = { λ b. AreStocked b.holds.supplies.items b.ends.sends.items
+        × (length b.holds.nexts.items ≡ 10001)
+        × IsSome b.holds.husk × (b.holds.ended ≡ b.ends.acks.ended) };
 }
 
 impl<M: Media> Butler<M> {
@@ -96,7 +105,7 @@ impl<M: Media> Butler<M> {
         ensures answer { Answers at.session e.now most self.old result self.new }
         ensures failed { Fails self.old result self.new }
         ensures rest { KeepsRest M.outside self.old self.new }
-        ensures cause { HasCause (M.outside.read_faults self.old.media) (M.outside.read_faults self.new.media) result }
+        ensures cause { ReadCause M.outside self.old.media self.new.media result }
     {
         self.accept();
         self.enter(e);
@@ -141,7 +150,8 @@ impl<M: Media> Butler<M> {
         requires stocked { self.old.failed ≡ false
             → AllStocked e.now.session.block self.old.supplies self.old.ends.sends.items }
         requires some { 0 < most }
-        ensures outcome { Outcome M.outside.tells (source_sound (M.outside.files self.old.media) self.old.sources)
+        ensures outcome { Outcome M.outside.tells
+            (source_sound (M.outside.files self.old.media) self.old.sources)
             e.now most self.old result self.new }
         ensures rest { self.new ≡ record self.old {
           media = self.new.media;
@@ -150,7 +160,7 @@ impl<M: Media> Butler<M> {
           failed = self.new.failed;
         } }
         ensures only_reads { OnlyReads M.outside self.old.media self.new.media }
-        ensures cause { HasCause (M.outside.read_faults self.old.media) (M.outside.read_faults self.new.media) result }
+        ensures cause { ReadCause M.outside self.old.media self.new.media result }
     {
         let holds = &mut self.holds;
         if holds.failed {

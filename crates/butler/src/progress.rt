@@ -25,7 +25,13 @@ pub(crate) struct SendProgress {
 impl SendProgress {
     /// That of a track of which nothing was sent.
     pub(crate) fn first(generation: u32, touched: u32) -> SendProgress
-        ensures { result ≡ record { generation = generation; touched = touched; fresh = 0; far = 0; mark = 0 } }
+        ensures { result ≡ record {
+          generation = generation;
+          touched = touched;
+          fresh = 0;
+          far = 0;
+          mark = 0;
+        } }
     {
         SendProgress {
             generation,
@@ -59,7 +65,8 @@ impl SendProgress {
     /// What is due, and the numbers once it was sent.
     pub(crate) fn step(&self, target: &TrackTarget) -> Option<(Kind, SendProgress)>
         requires { target.now.edition ≤ 10000 }
-        ensures due { option_map (λ r. kind_of r.0) result ≡ now_due (needs_of target.now) self.now }
+        ensures due { option_map (λ r. kind_of r.0) result
+            ≡ now_due (needs_of target.now) self.now }
         ensures then { IfSome result (λ r. r.1 ≡ advanced target.now.next self.now (kind_of r.0)) }
     {
         if target.next < self.fresh {

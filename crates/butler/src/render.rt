@@ -1,8 +1,7 @@
 //! The samples of a piece: frame i of the block is the track sample at the place of its generation's frame. The block is
 //! read by runs of places that follow one another.
 ghost use Rattle.std.specs.Prelude.{◌≡◌, ◌≢◌, ℕ, ◌+◌, ◌-◌, ◌<◌, ◌≤◌, ◌^◌, true, List, [], ◌∷◌, length, MatchOption, IfSome, OnOk};
-ghost use Rattle.ses_io.specs.Faults.{HasCause};
-ghost use Rattle.ses_io.specs.Outside.{OnlyReads};
+ghost use Rattle.ses_io.specs.Outside.{OnlyReads, ReadCause};
 ghost use Rattle.sound_model.specs.Layers.{track_sample};
 ghost use Rattle.session_model.specs.Frames.{interleaved};
 ghost use Rattle.session_model.specs.Region.{region_of};
@@ -68,11 +67,12 @@ fn runs<M: Media>(
     requires transport { IsTransport transport.now }
     requires frames { first + length out.old < 2 ^ 30 }
     ensures told { M.outside.tells → OnOk result (out.new ≡ interleaved
-        (λ n c. track_sample (source_sound (M.outside.files media.old) sources.old) (region_of region.now ∷ []) c
+        (λ n c. track_sample (source_sound (M.outside.files media.old) sources.old)
+        (region_of region.now ∷ []) c
         (place_of (transport_of transport.now) n)) 1 first (length out.old)) }
     ensures sources { sources.new ≡ sources.old }
     ensures only_reads { OnlyReads M.outside media.old media.new }
-    ensures cause { HasCause (M.outside.read_faults media.old) (M.outside.read_faults media.new) result }
+    ensures cause { ReadCause M.outside media.old media.new result }
 {
     let mut done = 0;
     while done < out.len() {
@@ -102,12 +102,13 @@ pub(crate) fn render<M: Media>(
     requires transport { IsTransport transport.now }
     requires frames { first + length out.old < 2 ^ 30 }
     ensures told { M.outside.tells → OnOk result (out.new ≡ interleaved
-        (λ n c. track_sample (source_sound (M.outside.files media.old) sources.old) (track_regions session.now track) c
+        (λ n c. track_sample (source_sound (M.outside.files media.old) sources.old)
+        (track_regions session.now track) c
         (place_of (transport_of transport.now) n)) 1 first (length out.old)) }
     ensures long { length out.new ≡ length out.old }
     ensures sources { sources.new ≡ sources.old }
     ensures only_reads { OnlyReads M.outside media.old media.new }
-    ensures cause { HasCause (M.outside.read_faults media.old) (M.outside.read_faults media.new) result }
+    ensures cause { ReadCause M.outside media.old media.new result }
 {
     match region_of_track(session, track) {
         Some(region) => runs(sources, media, &region, transport, first, out),

@@ -29,7 +29,15 @@ impl<M> Model for Resting<M> {
 
     ghost Value = { Rested M };
 
-    ghost view = { λ r. record { media = r.holds.reader.media; sources = r.holds.reader.sources; cycles = r.holds.cycles; supplies = r.holds.supplies.items; nexts = r.holds.nexts.items; ended = r.holds.ended; failed = r.holds.failed } };
+    ghost view = { λ r. record {
+      media = r.holds.reader.media;
+      sources = r.holds.reader.sources;
+      cycles = r.holds.cycles;
+      supplies = r.holds.supplies.items;
+      nexts = r.holds.nexts.items;
+      ended = r.holds.ended;
+      failed = r.holds.failed;
+    } };
 
     ghost invariant = { λ r. (length r.holds.nexts.items ≡ 10001) × IsSome r.holds.husk };
 }

@@ -1,8 +1,7 @@
 //! One item of a track: it is made in the spare box, and put into the track's ring.
 ghost use Rattle.std.specs.Prelude.{◌≡◌, ◌<◌, ◌≤◌, ◌*◌, true, false, length, OnOk};
 ghost use Rattle.engine_model.specs.PlainSession.{is_plain};
-ghost use Rattle.ses_io.specs.Faults.{HasCause};
-ghost use Rattle.ses_io.specs.Outside.{OnlyReads};
+ghost use Rattle.ses_io.specs.Outside.{OnlyReads, ReadCause};
 ghost use Rattle.audio_source.specs.Opened.{IsListed};
 ghost use Rattle.audio_source.specs.Told.{source_sound};
 ghost use Rattle.piece_item.specs.Views.{kind_of};
@@ -43,10 +42,11 @@ fn fill<M: Media>(
     ensures kind { item.new.kind ≡ kind }
     ensures room { length item.new.samples.items ≡ length item.old.samples.items }
     ensures block { M.outside.tells → OnOk result
-        (IsBlockOf (source_sound (M.outside.files reader.old.media) reader.old.sources) e.now (kind_of kind) item.new.samples.items) }
+        (IsBlockOf (source_sound (M.outside.files reader.old.media) reader.old.sources)
+        e.now (kind_of kind) item.new.samples.items) }
     ensures sources { reader.new.sources ≡ reader.old.sources }
     ensures only_reads { OnlyReads M.outside reader.old.media reader.new.media }
-    ensures cause { HasCause (M.outside.read_faults reader.old.media) (M.outside.read_faults reader.new.media) result }
+    ensures cause { ReadCause M.outside reader.old.media reader.new.media result }
 {
     let out = item.fill_as(kind);
     let Kind::Piece { track, seq, .. } = kind else {
@@ -78,13 +78,16 @@ pub(crate) fn send_next<M: Media>(
     requires track { track < length pass.now.edition.session.tracks.items }
     requires stocked { IsStocked pass.now.edition.session.block supply.old end.old }
     requires still_open { end.old.closed ≡ false }
-    ensures serves { Serves M.outside.tells (source_sound (M.outside.files reader.old.media) reader.old.sources) pass.now.edition
-        (needs_of (target_of pass.now track)) supply.old.progress end.old supply.new.progress end.new }
-    ensures answer { HasSent (needs_of (target_of pass.now track)) end.old supply.new.progress end.new result }
+    ensures serves { Serves M.outside.tells
+        (source_sound (M.outside.files reader.old.media) reader.old.sources) pass.now.edition
+        (needs_of (target_of pass.now track))
+        supply.old.progress end.old supply.new.progress end.new }
+    ensures answer { HasSent (needs_of (target_of pass.now track))
+        end.old supply.new.progress end.new result }
     ensures stocked { IsStocked pass.now.edition.session.block supply.new end.new }
     ensures sources { reader.new.sources ≡ reader.old.sources }
     ensures only_reads { OnlyReads M.outside reader.old.media reader.new.media }
-    ensures cause { HasCause (M.outside.read_faults reader.old.media) (M.outside.read_faults reader.new.media) result }
+    ensures cause { ReadCause M.outside reader.old.media reader.new.media result }
 {
     let target = TrackTarget::of(pass, track);
     let Some((kind, then)) = supply.progress.step(&target) else {

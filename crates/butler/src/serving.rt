@@ -1,7 +1,6 @@
 //! The tracks are served in their order, each until its ring is full or nothing is due, and all together by so many items.
 ghost use Rattle.std.specs.Prelude.{◌≡◌, ◌<◌, ◌+◌, false, length, IfOk};
-ghost use Rattle.ses_io.specs.Faults.{HasCause};
-ghost use Rattle.ses_io.specs.Outside.{OnlyReads};
+ghost use Rattle.ses_io.specs.Outside.{OnlyReads, ReadCause};
 ghost use Rattle.audio_source.specs.Told.{source_sound};
 ghost use Rattle.edition_log.specs.EditionState.{IsEditionState};
 ghost use Rattle.butler.specs.SendProgress.{needs_of, target_of};
@@ -33,13 +32,16 @@ pub(crate) fn serve<M: Media>(
     requires track { track < length pass.now.edition.session.tracks.items }
     requires stocked { IsStocked pass.now.edition.session.block supply.old end.old }
     requires still_open { end.old.closed ≡ false }
-    ensures serves { Serves M.outside.tells (source_sound (M.outside.files reader.old.media) reader.old.sources) pass.now.edition
-        (needs_of (target_of pass.now track)) supply.old.progress end.old supply.new.progress end.new }
-    ensures answer { IfOk result (HasServed (needs_of (target_of pass.now track)) most end.old supply.new.progress end.new) }
+    ensures serves { Serves M.outside.tells
+        (source_sound (M.outside.files reader.old.media) reader.old.sources) pass.now.edition
+        (needs_of (target_of pass.now track))
+        supply.old.progress end.old supply.new.progress end.new }
+    ensures answer { IfOk result (HasServed (needs_of (target_of pass.now track)) most
+        end.old supply.new.progress end.new) }
     ensures stocked { IsStocked pass.now.edition.session.block supply.new end.new }
     ensures sources { reader.new.sources ≡ reader.old.sources }
     ensures only_reads { OnlyReads M.outside reader.old.media reader.new.media }
-    ensures cause { HasCause (M.outside.read_faults reader.old.media) (M.outside.read_faults reader.new.media) result }
+    ensures cause { ReadCause M.outside reader.old.media reader.new.media result }
 {
     for sent in 0..most {
         if !send_next(reader, pass, track, supply, end)? {
@@ -60,12 +62,13 @@ pub(crate) fn serve_all<M: Media>(
     requires ready { IsReady reader.old.sources pass.now }
     requires tracks { length supplies.old ≡ length pass.now.edition.session.tracks.items }
     requires stocked { AllStocked pass.now.edition.session.block supplies.old sends.old }
-    ensures serves { AllServe M.outside.tells (source_sound (M.outside.files reader.old.media) reader.old.sources) pass.now
+    ensures serves { AllServe M.outside.tells
+        (source_sound (M.outside.files reader.old.media) reader.old.sources) pass.now
         supplies.old sends.old supplies.new sends.new }
     ensures answer { IfOk result (HaveServed pass.now most sends.old supplies.new sends.new) }
     ensures sources { reader.new.sources ≡ reader.old.sources }
     ensures only_reads { OnlyReads M.outside reader.old.media reader.new.media }
-    ensures cause { HasCause (M.outside.read_faults reader.old.media) (M.outside.read_faults reader.new.media) result }
+    ensures cause { ReadCause M.outside reader.old.media reader.new.media result }
 {
     let mut sent = 0;
     let count = pass.edition.session().tracks.len() as u32;
@@ -94,12 +97,13 @@ pub(crate) fn send_all<M: Media>(
     requires ready { IsReady reader.old.sources pass.now }
     requires tracks { length supplies.old ≡ length pass.now.edition.session.tracks.items }
     requires stocked { AllStocked pass.now.edition.session.block supplies.old sends.old }
-    ensures goes { Goes M.outside.tells (source_sound (M.outside.files reader.old.media) reader.old.sources) pass.now
+    ensures goes { Goes M.outside.tells
+        (source_sound (M.outside.files reader.old.media) reader.old.sources) pass.now
         most supplies.old sends.old result supplies.new sends.new }
     ensures stocked { AreStocked supplies.new sends.new }
     ensures sources { reader.new.sources ≡ reader.old.sources }
     ensures only_reads { OnlyReads M.outside reader.old.media reader.new.media }
-    ensures cause { HasCause (M.outside.read_faults reader.old.media) (M.outside.read_faults reader.new.media) result }
+    ensures cause { ReadCause M.outside reader.old.media reader.new.media result }
 {
     match serve_all(reader, pass, supplies, sends, most) {
         Ok(0) => Ok(Turn::Idle),

@@ -8,7 +8,7 @@ use session_model::SessionRefusal;
 use wav_codec::WavRefusal;
 
 /// Why an input that isn't empty isn't recorded: the first of these that holds.
-#[derive(Clone, Copy, Debug, PartialEq, Eq)]
+#[derive(Clone, Copy, PartialEq, Eq)]
 pub enum InputRefusal {
     /// Its head isn't read.
     Wav(WavRefusal),
@@ -19,7 +19,7 @@ pub enum InputRefusal {
 }
 
 /// How a run ended (own). NoMemory may stand in place of every other status.
-#[derive(Clone, Copy, Debug, PartialEq, Eq)]
+#[derive(Clone, Copy, PartialEq, Eq)]
 pub enum Status {
     /// All was written, and no count of faults rose. Its number is 0.
     Done,

@@ -29,7 +29,8 @@ impl<T: Roomy> Model for RingIn<T> {
 
     ghost view = { λ r. sender_of r.seat r.depth };
 
-    ghost invariant = { λ r. SenderOk (arc_value r.ring_table).shared.table_id r.seat r.count r.depth };
+    ghost invariant = { λ r. SenderOk (arc_value r.ring_table).shared.table_id r.seat r.count
+        r.depth };
 }
 
 /// The item wasn't put, and comes back, with the head that was loaded: the number received by then.

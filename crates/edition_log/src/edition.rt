@@ -34,9 +34,24 @@ impl Model for Edition {
 
     ghost Value = { EditionState };
 
-    ghost view = { λ e. record { session = e.session; transport = e.transport; order = e.order; touched = e.touched; edits = e.edits.items; ended = e.ended } };
+    ghost view = { λ e. record {
+      session = e.session;
+      transport = e.transport;
+      order = e.order;
+      touched = e.touched;
+      edits = e.edits.items;
+      ended = e.ended;
+    } };
 
-    ghost invariant = { λ e. IsEditionState record { session = e.session; transport = e.transport; order = e.order; touched = e.touched; edits = e.edits.items; ended = e.ended } × (10000 ≤ e.edits.room) };
+    ghost invariant = { λ e. IsEditionState record {
+      session = e.session;
+      transport = e.transport;
+      order = e.order;
+      touched = e.touched;
+      edits = e.edits.items;
+      ended = e.ended;
+    }
+        × (10000 ≤ e.edits.room) };
 }
 
 impl Edition {

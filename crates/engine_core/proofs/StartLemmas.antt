@@ -24,6 +24,7 @@ use Rattle.piece_item.specs.declared.ack.Ack.{Ack}
 use Rattle.piece_item.specs.declared.item.Item.{Item}
 use Rattle.process_cycle.specs.declared.ends.ProcessEnds.{ProcessEnds}
 use Rattle.process_cycle.specs.Answers.{AllLook, Keeps}
+use Rattle.process_cycle.specs.Made.{HasBegun}
 use Rattle.process_cycle.specs.Ends.{AreNew, AreOfOneRing, AreOtherEnds, IsNewIn, IsNewOut, block_of}
 use Rattle.process_cycle.specs.SpareBoxes.{received_kinds}
 use Rattle.process_cycle.specs.Playing.{IsPlaying, position_of}
@@ -37,7 +38,8 @@ use Rattle.engine_core.specs.declared.run_ends.RunEnds.{RunEnds}
 use Rattle.engine_core.specs.Rings.{AreRings, IsRing}
 use Rattle.engine_core.specs.Running.{Runs, IsTrueOfAll, noted, received}
 use Rattle.engine_core.specs.Plainly.{RunsPlainly, HasReceived, IsPlainTrack, generation_now}
-use Rattle.engine_core.specs.Starting.{HasStarted, AreNewRunEnds, MayStart, no_faults}
+use Rattle.engine_core.specs.declared.workers.Workers.{Workers}
+use Rattle.engine_core.specs.Starting.{HasStarted, HasWorkers, AreNewRunEnds, MayStart, no_faults}
 use Rattle.engine_core.proofs.MeetLemmas.{item_at, some_receiver, some_sender}
 
 -- ---- new rings
@@ -110,6 +112,18 @@ new_for s e w is new_ends = subst (λ (z : Session). AreNewRunEnds z w) (session
 
 pub playing_for : {W : Type 0} (s : Session) (e : Edition) (p : Process W) → IsEditionOf s e → IsPlaying e.session [] p → IsPlaying s [] p
 playing_for s e p is playing = subst (λ (z : Session). IsPlaying z [] p) (session_is s e is) playing
+
+-- the workers have the ends that they were given
+pub has_workers : {V W : Type 0} (s : Session) (e : Edition) (sources : List OpenedSource) (cycles : ℕ) (media : V) (master : W) (ends : RunEnds) → AreNewRunEnds e.session ends → (w : Workers V W) →
+    HasBegun e.session cycles master ends.process w.process → IsServing s e.edits w.butler → IsGiven media sources cycles ends.butler w.butler → w.acks ≡ ends.acks → HasWorkers s e sources cycles media master w
+has_workers s e sources cycles media master ends new_ends w begun serving given acks = let theirs = sym begun.ends in let its = sym given.ends_is in record {
+  begun = subst (λ (z : ProcessEnds). HasBegun e.session cycles master z w.process) theirs begun;
+  serving = serving;
+  given = subst (λ z. IsGiven media sources cycles z w.butler) its given;
+  new_ends = subst (λ (z : ProcessEnds). AreNewRunEnds e.session (record { process = z; butler = w.butler.ends; acks = w.acks })) theirs
+      (subst (λ z. AreNewRunEnds e.session (record { process = ends.process; butler = z; acks = w.acks })) its
+      (subst (λ z. AreNewRunEnds e.session (record { process = ends.process; butler = ends.butler; acks = z })) (sym acks) new_ends));
+}
 
 -- ---- nothing was received when the ends met
 

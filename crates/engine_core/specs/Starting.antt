@@ -10,9 +10,13 @@ use Rattle.edition_log.specs.EditionState.{EditionState as Edition, IsEditionOf}
 use Rattle.disk_ring.specs.Sender.{Sender}
 use Rattle.piece_item.specs.declared.item.Item.{Item}
 use Rattle.process_cycle.specs.declared.finished.Faults.{Faults}
+use Rattle.process_cycle.specs.Made.{HasBegun}
+use Rattle.butler.specs.Serving.{IsGiven, IsServing}
 use Rattle.engine_core.specs.declared.serial.Run.{Run}
 use Rattle.engine_core.specs.declared.starting.Started.{Started}
+use Rattle.engine_core.specs.declared.lists.RunLists.{RunLists}
 use Rattle.engine_core.specs.declared.run_ends.RunEnds.{RunEnds}
+use Rattle.engine_core.specs.declared.workers.Workers.{Workers}
 use Rattle.engine_core.specs.Begun.{Begun}
 use Rattle.engine_core.specs.Rings.{IsRing, EachHasARing}
 use Rattle.engine_core.specs.Plainly.{RunsPlainly, HasReceived}
@@ -50,6 +54,24 @@ pub record MayStart (s : Session) (e : Edition) (sources : List OpenedSource) (c
   pub listed : IsListed s.rate s.sources.items sources
   pub some_cycle : 1 ≤ cycles
   pub near : cycles ≤ 100000
+
+-- empty lists for so many tracks
+abbrev pub no_lists : ℕ → RunLists
+no_lists tracks = record { rings = record { items = []; room = tracks }; edits = record { items = []; room = 10000 } }
+
+-- the ends of the rings that the workers have, and control's
+abbrev pub ends_of : {V W : Type 0} → Workers V W → RunEnds
+ends_of w = record { process = w.process.ends; butler = w.butler.ends; acks = w.acks }
+
+-- The workers of a run.
+pub record HasWorkers {V W : Type 0} (s : Session) (e : Edition) (sources : List OpenedSource) (cycles : ℕ) (media : V) (master : W) (w : Workers V W) : Type 0 where
+  -- the process has noted nothing
+  pub begun : HasBegun e.session cycles master w.process.ends w.process
+  -- the butler serves the edition, and has what it was given
+  pub serving : IsServing s e.edits w.butler
+  pub given : IsGiven media sources cycles w.butler.ends w.butler
+  -- their rings are new
+  pub new_ends : AreNewRunEnds e.session (ends_of w)
 
 -- A run has started, and nothing has happened yet.
 pub record HasStarted {V W : Type 0} (s : Session) (e : Edition) (sources : List OpenedSource) (cycles : ℕ) (media : V) (master : W) (r : Run V W) : Type 0 where

@@ -18,6 +18,7 @@ mod rings;
 mod run_ends;
 mod serial;
 mod starting;
+mod workers;
 
 pub use events::{Event, run_events};
 pub use process_cycle::{Faults, Finished, Grant, Opened, RingsList, Script, TrackRings};

@@ -1,5 +1,6 @@
 //! The lists that a run leaves, with room for all that they will hold.
-ghost use Rattle.std.specs.Prelude.{◌≡◌, ◌≤◌, [], length, IfOk};
+ghost use Rattle.std.specs.Prelude.{◌≡◌, ◌≤◌, [], IfOk};
+ghost use Rattle.engine_core.specs.Starting.{no_lists};
 
 use edition_log::Edition;
 use process_cycle::RingsList;
@@ -19,10 +20,7 @@ pub(crate) struct RunLists {
 
 /// Empty lists for so many tracks.
 pub(crate) fn empty_lists(alloc: Global, tracks: u32) -> Result<RunLists, NoMemory>
-    ensures { IfOk result (λ x. x ≡ record {
-      rings = record { items = []; room = tracks };
-      edits = record { items = []; room = 10000 };
-    }) }
+    ensures { IfOk result (λ x. x ≡ no_lists tracks) }
 {
     Ok(RunLists {
         rings: FixedList::new(alloc, tracks)?,

@@ -1,16 +1,17 @@
 //! How a run starts: its rings, its two workers and its lists are made, so that nothing takes memory later.
-ghost use Rattle.std.specs.Prelude.{◌≡◌, IfOk, IfErr, length, [], false};
+ghost use Rattle.std.specs.Prelude.{◌≡◌, IfOk, IfErr, length};
+ghost use Rattle.session_model.specs.declared.session.Session.{Session as Opening};
 ghost use Rattle.engine_core.specs.Begun.{Begun};
-ghost use Rattle.engine_core.specs.Starting.{MayStart, StartsARun, no_faults};
+ghost use Rattle.engine_core.specs.Starting.{HasWorkers, MayStart, StartsARun, no_faults, no_lists};
 
 use crate::engine::Core;
 use crate::lists::{RunLists, empty_lists};
-use crate::run_ends::{RunEnds, new_run_ends};
+use crate::run_ends::new_run_ends;
 use crate::serial::Run;
+use crate::workers::{Workers, new_workers};
 use audio_source::Sources;
-use butler::Butler;
 use edition_log::Edition;
-use process_cycle::{Faults, Process, ProcessParts};
+use process_cycle::Faults;
 use ses_io::{Media, Sink};
 use std::alloc::Global;
 
@@ -37,6 +38,42 @@ fn no_faults() -> Faults
     }
 }
 
+// What is made of the memory that a run takes.
+#[derive(Drop)]
+struct Prepared<M, W> {
+    lists: RunLists,
+    workers: Workers<M, W>,
+}
+
+// It is made. Err is want of memory, and gives media and master back.
+fn prepare<M: Media, W: Sink>(
+    alloc: Global,
+    edition: &Edition,
+    sources: Sources,
+    cycles: u32,
+    media: M,
+    master: W,
+) -> Result<Prepared<M, W>, (M, W)>
+    ghost s: { Opening }
+    requires { MayStart s edition.now sources cycles }
+    ensures workers { IfOk result
+        (λ x. HasWorkers s edition.now sources cycles media master x.workers) }
+    ensures lists { IfOk result
+        (λ x. x.lists ≡ no_lists (length edition.now.session.tracks.items)) }
+    ensures back { IfErr result (λ p. (p.0 ≡ media) × (p.1 ≡ master)) }
+{
+    let Ok(lists) = empty_lists(alloc, edition.session().tracks.len() as u32) else {
+        return Err((media, master));
+    };
+    let Ok(ends) = new_run_ends(alloc, edition.session()) else {
+        return Err((media, master));
+    };
+    match new_workers(alloc, edition, sources, cycles, media, master, ends) {
+        Ok(workers) => Ok(Prepared { lists, workers }),
+        Err(back) => Err(back),
+    }
+}
+
 /// Starts a run in this edition: the process looks once at each ring, by which it enters the edition. Err is want of memory,
 /// and gives media and master back.
 pub(crate) fn start<M: Media, W: Sink>(
@@ -50,31 +87,20 @@ pub(crate) fn start<M: Media, W: Sink>(
     ghost begun: { Begun }
     requires { MayStart begun.session edition sources cycles }
     ensures started { IfOk result (StartsARun begun.session edition sources cycles media master) }
-    ensures lists { IfOk result (λ x. x.lists ≡ record {
-      rings = record { items = []; room = length edition.session.tracks.items };
-      edits = record { items = []; room = 10000 };
-    }) }
+    ensures lists { IfOk result (λ x. x.lists ≡ no_lists (length edition.session.tracks.items)) }
     ensures back { IfErr result (λ p. (p.0 ≡ media) × (p.1 ≡ master)) }
 {
-    let Ok(lists) = empty_lists(alloc, edition.session().tracks.len() as u32) else {
-        return Err((media, master));
+    let Prepared { lists, workers } = match prepare(
+        alloc, &edition, sources, cycles, media, master,
+    ) {
+        Ok(prepared) => prepared,
+        Err(back) => return Err(back),
     };
-    let Ok(run_ends) = new_run_ends(alloc, edition.session()) else {
-        return Err((media, master));
-    };
-    let RunEnds {
-        process,
+    let Workers {
+        mut process,
         butler,
         acks,
-    } = run_ends;
-    let mut process = match Process::new(alloc, &edition, cycles, master, process) {
-        Ok(process) => process,
-        Err(master) => return Err((media, master)),
-    };
-    let butler = match Butler::new(alloc, media, sources, &edition, cycles, butler) {
-        Ok(butler) => butler,
-        Err(media) => return Err((media, master_of(process))),
-    };
+    } = workers;
     let _ = process.gather(&edition);
     let core = Core {
         edition,
@@ -87,16 +113,4 @@ pub(crate) fn start<M: Media, W: Sink>(
         faults: no_faults(),
     };
     Ok(Started { run, lists })
-}
-
-// The master that a process has.
-fn master_of<W: Sink>(process: Process<W>) -> W
-    ensures { result ≡ process.master }
-{
-    let ProcessParts {
-        master,
-        journal: _,
-        ends: _,
-    } = process.parts();
-    master
 }

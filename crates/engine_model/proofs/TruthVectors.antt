@@ -83,3 +83,11 @@ missed_by_its_track = refl
 
 missed_by_no_other : misses (Roll ∷ []) 0 (seeking 1 ∷ []) ≡ []
 missed_by_no_other = refl
+
+-- two lost blocks that name each other's head are not true
+heads_swapped : IsTruthful [] 2 0 [] [] (1 ∷ 0 ∷ []) (taking 0 0 ∷ taking 1 1 ∷ losing 2 2 1 ∷ taking 3 3 ∷ losing 4 4 0 ∷ []) → ⊥
+heads_swapped t = cc t.full
+
+-- nor are two that were found full in another order
+found_in_another_order : IsTruthful [] 2 0 [] [] (1 ∷ 0 ∷ []) (taking 0 0 ∷ taking 1 1 ∷ losing 2 2 0 ∷ taking 3 3 ∷ losing 4 4 1 ∷ []) → ⊥
+found_in_another_order t = cc t.found_full

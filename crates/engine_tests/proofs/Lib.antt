@@ -1,2 +1,2 @@
--- Why a worker on a bench may begin.
-mod FixtureLemmas
+-- Why the workers on a bench may begin and go on.
+mod BenchLemmas

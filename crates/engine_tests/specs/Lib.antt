@@ -1,2 +1,2 @@
--- What is so of a worker on a bench.
-pub mod ButlerFixture
+-- What is so of the workers on a bench.
+pub mod Bench

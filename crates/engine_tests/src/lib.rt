@@ -1,7 +1,17 @@
-//! Values from outside for the workers and for whole runs: steps that were worked out beside the code.
+//! Values from outside, worked out beside the code: for editions and journals, the workers and whole runs.
 #![tactic(auto)]
 
 #[cfg(test)]
+mod bench;
+#[cfg(test)]
 mod butler_turns;
+#[cfg(test)]
+mod editions;
+#[cfg(test)]
+mod journals;
+#[cfg(test)]
+mod plans;
+#[cfg(test)]
+mod process_turns;
 #[cfg(test)]
 mod runs;

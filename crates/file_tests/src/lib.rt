@@ -1,7 +1,11 @@
-//! Values from outside for files: WAV files and the sources of a session.
+//! Values from outside for WAV files, the parts of sessions, and their texts.
 #![tactic(auto)]
 
 #[cfg(test)]
-mod sources;
+mod parts;
+#[cfg(test)]
+mod session_parts;
+#[cfg(test)]
+mod session_texts;
 #[cfg(test)]
 mod wav_files;

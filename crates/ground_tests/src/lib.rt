@@ -1,4 +1,4 @@
-//! Values from outside for the layers at the ground: numbers, the outside, session parts, rings and boxes.
+//! Values from outside for the layers at the ground: numbers, rings, boxes, the outside and sources.
 #![tactic(auto)]
 
 #[cfg(test)]
@@ -8,6 +8,6 @@ mod outside;
 #[cfg(test)]
 mod rings;
 #[cfg(test)]
-mod session_parts;
+mod sources;
 #[cfg(test)]
 mod units;

@@ -5,49 +5,53 @@ mod folders;
 mod lists;
 mod memory;
 
-use ses_io::{Failed, Media};
+use ses_io::{Failed, Media, MemMedia};
+use std::alloc::Global;
 
 /// A call of a media on the file of a name, and what it has to answer.
-#[derive(Clone, Copy)]
 enum Call {
     Size(&'static str, Result<Option<u64>, Failed>),
     Any(&'static str, Result<bool, Failed>),
-    /// A read of two bytes from a place on: how many came, and the first.
-    Two(&'static str, u64, Result<(usize, u8), Failed>),
-    /// A read of four bytes from a place on: how many came, and all four.
-    Four(&'static str, u64, Result<(usize, [u8; 4]), Failed>),
+    /// A read from a place on, of so many bytes into the front of four that are dots: how many came, and all four.
+    Read(&'static str, u64, usize, Result<(usize, [u8; 4]), Failed>),
     Append(&'static str, &'static [u8], Result<usize, Failed>),
 }
 
-fn read_two<M: Media>(media: &mut M, name: &str, at: u64) -> Result<(usize, u8), Failed> {
-    let mut two = [0u8; 2];
-    let n = media.read_at(name, at, &mut two)?;
-    Ok((n, two[0]))
-}
-
-fn read_four<M: Media>(media: &mut M, name: &str, at: u64) -> Result<(usize, [u8; 4]), Failed> {
+fn read<M: Media>(
+    media: &mut M,
+    name: &str,
+    at: u64,
+    most: usize,
+) -> Result<(usize, [u8; 4]), Failed> {
     let mut four = *b"....";
-    let n = media.read_at(name, at, &mut four)?;
+    let n = media.read_at(name, at, &mut four[..most.min(4)])?;
     Ok((n, four))
 }
 
 // Whether a call was answered as it says.
-fn does<M: Media>(media: &mut M, call: Call) -> bool {
+fn does<M: Media>(media: &mut M, call: &Call) -> bool {
     match call {
-        Call::Size(name, want) => media.size(name) == want,
-        Call::Any(prefix, want) => media.any(prefix) == want,
-        Call::Two(name, at, want) => read_two(media, name, at) == want,
-        Call::Four(name, at, want) => read_four(media, name, at) == want,
-        Call::Append(name, bytes, want) => media.append(name, bytes) == want,
+        Call::Size(name, want) => media.size(name) == *want,
+        Call::Any(prefix, want) => media.any(prefix) == *want,
+        Call::Read(name, at, most, want) => read(media, name, *at, *most) == *want,
+        Call::Append(name, bytes, want) => media.append(name, bytes) == *want,
     }
 }
 
-// The number of the first call, from 0, that wasn't; None where all were.
-fn first_wrong<M: Media>(media: &mut M, calls: &[Call]) -> Option<usize> {
-    for (at, call) in calls.iter().enumerate() {
-        if !does(media, *call) {
-            return Some(at);
+// Whether all were.
+fn does_all<M: Media>(media: &mut M, calls: &[Call]) -> bool {
+    for call in calls {
+        if !does(media, call) {
+            return false;
         }
     }
-    None
+    true
+}
+
+/// Puts a file of these parts into a media.
+pub(crate) fn put(alloc: Global, media: &mut MemMedia, name: &str, parts: &[&[u8]]) -> bool {
+    match parts.concat(alloc) {
+        Ok(bytes) => media.put(name, bytes).is_ok(),
+        Err(_) => false,
+    }
 }

@@ -1,47 +1,31 @@
-//! Worked rows of a ring on one thread, where memory is ample.
+//! Worked rows of a ring on one thread, where memory is ample. An item is told by the number of its cycle.
 ghost use Rattle.std.specs.Prelude.{◌≡◌, ◌<◌, ◌≤◌, ℕ, false, IfOk};
 ghost use Rattle.disk_ring.specs.Sender.{GoesOnIn};
 ghost use Rattle.disk_ring.specs.Receiver.{GoesOnOut};
 ghost use Rattle.disk_ring.specs.Rings.{IsNewRing};
 
-use disk_ring::{Full, Nothing, RingIn, RingOut, Roomy, meet, rejoin, ring};
+use disk_ring::{Full, Nothing, RingIn, RingOut, ring};
+use piece_item::Ack;
 use ses_io::NoMemory;
 use std::alloc::Global;
-use std::test::Fail;
 
 mod lists;
 mod meetings;
 mod threads;
 
-/// An item that is told by its number.
-#[derive(Drop)]
-pub struct Tag {
-    pub number: u64,
+/// A box of that number.
+fn boxed(alloc: Global, number: u32) -> Result<Box<Ack>, NoMemory> {
+    let ack = Ack {
+        cycle: number,
+        generation: 0,
+        next: 0,
+        settled: 0,
+    };
+    Ok(Box::new(alloc, ack)?)
 }
 
-impl Roomy for Tag {
-    ghost room_of = { λ _. 0 };
-
-    fn room(&self) -> u32 {
-        0
-    }
-}
-
-/// What a call answered, with the number of the box that came back.
-#[derive(Clone, Copy, PartialEq, Eq)]
-enum Answer {
-    Put,
-    Full { number: u64, head: u64 },
-    Took { number: u64 },
-    Empty { husk: u64, tail: u64 },
-    Closed { husk: u64, tail: u64 },
-}
-
-fn boxed(alloc: Global, number: u64) -> Result<Box<Tag>, NoMemory> {
-    Ok(Box::new(alloc, Tag { number })?)
-}
-
-fn new_ring(alloc: Global, depth: u32) -> Result<(RingIn<Tag>, RingOut<Tag>), NoMemory>
+/// The ends of a ring of so many boxes, each of number 0.
+fn new_ring(alloc: Global, depth: u32) -> Result<(RingIn<Ack>, RingOut<Ack>), NoMemory>
     requires { 0 < depth }
     ensures ends { IfOk result (λ r. IsNewRing depth r.0 r.1) }
     ensures room { IfOk result (λ r. r.0.room ≡ 0) }
@@ -54,7 +38,17 @@ fn new_ring(alloc: Global, depth: u32) -> Result<(RingIn<Tag>, RingOut<Tag>), No
     Ok((to, from))
 }
 
-fn put(to: &mut RingIn<Tag>, item: Box<Tag>) -> Answer
+/// What a call answered, with the number of the box that came back.
+#[derive(Clone, Copy, PartialEq)]
+enum Answer {
+    Put,
+    Full { number: u32, head: u64 },
+    Took { number: u32 },
+    Empty { husk: u32, tail: u64 },
+    Closed { husk: u32, tail: u64 },
+}
+
+fn put(to: &mut RingIn<Ack>, item: Box<Ack>) -> Answer
     requires open { to.old.closed ≡ false }
     requires room { to.old.room ≡ 0 }
     ensures { GoesOnIn to.old to.new }
@@ -62,48 +56,45 @@ fn put(to: &mut RingIn<Tag>, item: Box<Tag>) -> Answer
     match to.put(item) {
         Ok(_husk) => Answer::Put,
         Err(Full { item, head }) => Answer::Full {
-            number: item.number,
+            number: item.cycle,
             head,
         },
     }
 }
 
-fn take(from: &mut RingOut<Tag>, husk: Box<Tag>) -> Answer
+fn take(from: &mut RingOut<Ack>, husk: Box<Ack>) -> Answer
     requires room { from.old.room ≡ 0 }
     ensures { GoesOnOut from.old from.new }
 {
     match from.take(husk) {
-        Ok(item) => Answer::Took {
-            number: item.number,
-        },
+        Ok(item) => Answer::Took { number: item.cycle },
         Err(Nothing::Empty { husk, tail }) => Answer::Empty {
-            husk: husk.number,
+            husk: husk.cycle,
             tail,
         },
         Err(Nothing::Closed { husk, tail }) => Answer::Closed {
-            husk: husk.number,
+            husk: husk.cycle,
             tail,
         },
     }
 }
 
 /// A call, with what it has to answer.
-#[derive(Clone, Copy)]
 enum Step {
     /// An item of that number is put.
-    Put(u64, Answer),
+    Put(u32, Answer),
     /// A box of that number is given to take an item.
-    Take(u64, Answer),
+    Take(u32, Answer),
 }
 
 /// The rows of a ring: its boxes, the calls while it is open, and those after it was closed.
 struct Run {
     depth: u32,
     open: &'static [Step],
-    closed: &'static [(u64, Answer)],
+    closed: &'static [(u32, Answer)],
 }
 
-const RUNS: [Run; 3] = [
+const RUNS: &[Run] = &[
     // filled, emptied, filled again in part, closed
     Run {
         depth: 2,
@@ -144,28 +135,11 @@ const RUNS: [Run; 3] = [
     },
 ];
 
-// Whether a call was answered as it says.
-fn does(
-    alloc: Global,
-    to: &mut RingIn<Tag>,
-    from: &mut RingOut<Tag>,
-    step: Step,
-) -> Result<bool, NoMemory>
-    requires open { to.old.closed ≡ false }
-    requires room { (to.old.room ≡ 0) × (from.old.room ≡ 0) }
-    ensures open { to.new.closed ≡ false }
-    ensures room { (to.new.room ≡ 0) × (from.new.room ≡ 0) }
-{
-    match step {
-        Step::Put(number, want) => Ok(put(to, boxed(alloc, number)?) == want),
-        Step::Take(husk, want) => Ok(take(from, boxed(alloc, husk)?) == want),
-    }
-}
-
+// Whether each call was answered as it says.
 fn does_all(
     alloc: Global,
-    to: &mut RingIn<Tag>,
-    from: &mut RingOut<Tag>,
+    to: &mut RingIn<Ack>,
+    from: &mut RingOut<Ack>,
     steps: &[Step],
 ) -> Result<bool, NoMemory>
     requires open { to.old.closed ≡ false }
@@ -173,7 +147,11 @@ fn does_all(
     ensures { from.new.room ≡ 0 }
 {
     for step in steps {
-        if !does(alloc, to, from, *step)? {
+        let right = match step {
+            Step::Put(number, want) => put(to, boxed(alloc, *number)?) == *want,
+            Step::Take(husk, want) => take(from, boxed(alloc, *husk)?) == *want,
+        };
+        if !right {
             return Ok(false);
         }
     }
@@ -182,13 +160,12 @@ fn does_all(
 
 fn takes_all(
     alloc: Global,
-    from: &mut RingOut<Tag>,
-    takes: &[(u64, Answer)],
+    from: &mut RingOut<Ack>,
+    takes: &[(u32, Answer)],
 ) -> Result<bool, NoMemory>
     requires { from.old.room ≡ 0 }
 {
-    for row in takes {
-        let (husk, want) = row;
+    for (husk, want) in takes {
         if take(from, boxed(alloc, *husk)?) != *want {
             return Ok(false);
         }
@@ -202,49 +179,17 @@ fn is_right(alloc: Global, run: &Run) -> Result<bool, NoMemory> {
         return Ok(false);
     }
     let (mut to, mut from) = new_ring(alloc, run.depth)?;
-    if !does_all(alloc, &mut to, &mut from, run.open)? {
-        return Ok(false);
-    }
+    let open = does_all(alloc, &mut to, &mut from, run.open);
     to.close();
-    takes_all(alloc, &mut from, run.closed)
+    let closed = takes_all(alloc, &mut from, run.closed);
+    Ok(open == Ok(true) && closed == Ok(true))
 }
 
 #[test]
 fn each_call_is_answered_as_it_was_worked_out(rt: HostRuntime) {
-    for run in &RUNS {
-        assert_eq!(rt; is_right(rt.alloc(), run), Ok(true), "{} boxes", run.depth);
+    assert!(rt; meetings::ends_answer(rt.alloc()) == Ok(true));
+    assert!(rt; lists::second_is_found(rt.alloc()) == Ok(true));
+    for run in RUNS {
+        assert!(rt; is_right(rt.alloc(), run) == Ok(true));
     }
-}
-
-// The number of the husk that comes back when a second item is put into a ring of one box, after its ends met again;
-// before they did, the item came back.
-fn husk_of_second(
-    alloc: Global,
-    to: &mut RingIn<Tag>,
-    from: &mut RingOut<Tag>,
-) -> Result<Option<u64>, NoMemory>
-    requires open { to.old.closed ≡ false }
-    requires room { (to.old.room ≡ 0) × (from.old.room ≡ 0) }
-    requires ring { from.old.ring ≡ to.old.ring }
-    ensures { from.new.ring ≡ to.new.ring }
-{
-    let refused = put(to, boxed(alloc, 2)?);
-    let taken = take(from, boxed(alloc, 9)?);
-    meet(to, from);
-    if refused != (Answer::Full { number: 2, head: 0 }) || taken != (Answer::Took { number: 1 }) {
-        return Ok(None);
-    }
-    Ok(to.put(boxed(alloc, 2)?).ok().map(|husk| husk.number))
-}
-
-// Two ends that met: the husks that `put` hands back are the boxes that the ring began with.
-#[test]
-fn ends_meet_and_are_joined(rt: HostRuntime) -> Result<(), Fail> {
-    let alloc = rt.alloc();
-    let (mut to, mut from) = new_ring(alloc, 1)?;
-    assert!(rt; put(&mut to, boxed(alloc, 1)?) == Answer::Put);
-    meet(&mut to, &mut from);
-    assert_eq!(rt; husk_of_second(alloc, &mut to, &mut from)?, Some(9));
-    rejoin(to, from).facts();
-    Ok(())
 }

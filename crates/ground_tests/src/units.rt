@@ -1,100 +1,119 @@
-//! Worked values from outside, and each call once where memory is ample.
+//! Worked values of numbers, names and lanes, and each call once where memory is ample.
 ghost use Rattle.std.specs.Prelude.{◌≡◌};
 
 use ses_units::{Bits, Gain, Lane, LaneRefusal, Mode, Name, Point, clip, file_sample, scale};
-use std::test::Fail;
+use std::alloc::Global;
 
-fn gain(n: u32) -> Result<Gain, Fail> {
-    Ok(Gain::new(n).ok().ok_or("too loud")?)
+/// The gain of so many 65,536ths.
+pub(crate) fn gain(n: u32) -> Gain {
+    Gain::new(n).unwrap_or(Gain::UNITY)
 }
 
-fn unity_at(at: u64) -> Point
+fn point(at: u64, n: u32) -> Point
     ensures { result.at ≡ at }
 {
-    Point {
-        at,
-        gain: Gain::UNITY,
+    Point { at, gain: gain(n) }
+}
+
+/// Whether a lane has these points, each a place and a gain.
+pub(crate) fn has_points(lane: &Lane, points: &[(u64, u32)]) -> bool {
+    let held = lane.points();
+    for (point, (at, gain)) in held.iter().zip(points) {
+        if point.at != *at || point.gain.value() != *gain {
+            return false;
+        }
+    }
+    held.len() == points.len()
+}
+
+// Whether the points are as they have to be after each of them is set or unset.
+fn is_changed(lane: &mut Lane) -> bool {
+    has_points(lane, &[(0, 65_536), (4, 0)])
+        && lane.set(point(2, 7)).is_ok()
+        && has_points(lane, &[(0, 65_536), (2, 7), (4, 0)])
+        && lane.set(point(4, 65_536)).is_ok()
+        && has_points(lane, &[(0, 65_536), (2, 7), (4, 65_536)])
+        && lane.unset(0).is_ok()
+        && has_points(lane, &[(2, 7), (4, 65_536)])
+        && lane.unset(0).is_err()
+}
+
+fn new_lane_is_changed(alloc: Global) -> bool {
+    match Lane::new(alloc, &[point(0, 65_536), point(4, 0)]) {
+        Ok(mut lane) => is_changed(&mut lane),
+        Err(_) => false,
+    }
+}
+
+// Whether the points make no lane, for this reason.
+fn is_refused(alloc: Global, points: &[Point], refusal: LaneRefusal) -> bool {
+    match Lane::new(alloc, points) {
+        Ok(_) => false,
+        Err(told) => told == refusal,
     }
 }
 
 #[test]
-fn a_lane_gives_its_points_as_they_are_set_and_unset(rt: HostRuntime) -> Result<(), Fail> {
-    let first = unity_at(0);
-    let last = Point {
-        at: 4,
-        gain: gain(0)?,
-    };
-    let middle = Point {
-        at: 2,
-        gain: gain(7)?,
-    };
-    let mut lane = Lane::new(rt.alloc(), &[first, last]).ok().ok_or("refused")?;
-    assert_eq!(rt; lane.points(), [first, last].as_slice());
-    assert!(rt; lane.set(middle).is_ok());
-    assert_eq!(rt; lane.points(), [first, middle, last].as_slice());
-    let louder = unity_at(4);
-    assert!(rt; lane.set(louder).is_ok());
-    assert_eq!(rt; lane.points(), [first, middle, louder].as_slice());
-    assert!(rt; lane.unset(0).is_ok());
-    assert_eq!(rt; lane.points(), [middle, louder].as_slice());
-    assert!(rt; lane.unset(0).is_err());
-    Ok(())
+fn a_lane_gives_its_points_or_the_first_broken_rule(rt: HostRuntime) {
+    let alloc = rt.alloc();
+    assert!(rt; new_lane_is_changed(alloc));
+    let many = [point(3, 65_536); 1025];
+    assert!(rt; is_refused(alloc, &many, LaneRefusal::TooMany(1025)));
+    let far = [point(4, 65_536), point(3, 65_536), point(1 << 40, 65_536)];
+    assert!(rt; is_refused(alloc, &far, LaneRefusal::Far(2)));
+    let level = [point(3, 65_536), point(4, 65_536), point(4, 65_536)];
+    assert!(rt; is_refused(alloc, &level, LaneRefusal::NotRising(2)));
 }
 
-#[test]
-fn the_first_broken_rule_is_named(rt: HostRuntime) -> Result<(), Fail> {
-    let many = [unity_at(3); 1025];
-    assert!(rt; Lane::new(rt.alloc(), &many).err() == Some(LaneRefusal::TooMany(1025)));
-    assert!(rt;
-        Lane::new(rt.alloc(), &[unity_at(4), unity_at(3), unity_at(1 << 40)]).err()
-            == Some(LaneRefusal::Far(2))
-    );
-    assert!(rt;
-        Lane::new(rt.alloc(), &[unity_at(3), unity_at(4), unity_at(4)]).err()
-            == Some(LaneRefusal::NotRising(2))
-    );
-    Ok(())
-}
-
-#[test]
-fn a_name_is_its_text(rt: HostRuntime) -> Result<(), Fail> {
-    let name = Name::new("drum_2").ok().ok_or("no name")?;
-    assert_eq!(rt; name.as_str(), "drum_2");
-    assert!(rt; Name::new("drum_2").is_ok_and(|again| again == name));
-    for text in [
-        "",
-        "2nd",
-        "_a",
-        "drumS",
-        "drum-2",
-        "abcdefghijklmnopqrstuvwxy",
-    ] {
-        assert!(rt; Name::new(text).is_err(), "{text} is no name");
+// Whether an error is told in these words.
+fn is_told(alloc: Global, refusal: LaneRefusal, words: &str) -> bool {
+    match format!(in alloc; "{refusal}") {
+        Ok(text) => text.as_str() == words,
+        Err(_) => false,
     }
-    Ok(())
 }
 
-// A sample of -1 at half gain is rounded down, so it stays -1.
-#[test]
-fn a_gain_rounds_down(rt: HostRuntime) -> Result<(), Fail> {
-    let half = gain(32_768)?;
-    assert_eq!(rt; half.value(), 32_768);
-    assert_eq!(rt; file_sample(clip(scale(-256, half)), Bits::B16), -1);
-    Ok(())
+/// Texts, and whether they are names.
+const NAMES: [(&str, bool); 7] = [
+    ("drum_2", true),
+    ("", false),
+    ("2nd", false),
+    ("_a", false),
+    ("drumS", false),
+    ("drum-2", false),
+    ("abcdefghijklmnopqrstuvwxy", false),
+];
+
+// Whether a text makes a name that is the text, and the same each time.
+fn is_name(text: &str) -> bool {
+    match (Name::new(text), Name::new(text)) {
+        (Ok(name), Ok(again)) => name.as_str() == text && name == again,
+        _ => false,
+    }
 }
 
-// Two tracks of a constant 30,000 pass together what 16 bits hold.
 #[test]
-fn a_sum_is_bounded_by_the_file(rt: HostRuntime) {
-    assert_eq!(rt; file_sample(clip(2 * 30_000 * 256), Bits::B16), 32_767);
-    assert_eq!(rt; file_sample(i32::MIN, Bits::B24), -8_388_608);
-    assert_eq!(rt; clip(i64::MAX), i32::MAX);
-    assert_ne!(rt; Mode::Manual, Mode::Play);
+fn names_and_errors_are_texts(rt: HostRuntime) {
+    for (text, named) in &NAMES {
+        assert!(rt; is_name(text) == *named);
+    }
+    assert!(rt;
+        is_told(
+            rt.alloc(),
+            LaneRefusal::TooMany(1025),
+            "1025 points, at most 1024"
+        )
+    );
 }
 
+// A sample of -1 at half gain stays -1. Two tracks of a constant 30,000 pass together what 16 bits hold.
 #[test]
-fn errors_print_what_is_wrong(rt: HostRuntime) -> Result<(), Fail> {
-    let text = format!(in rt.alloc(); "{}", LaneRefusal::TooMany(1025))?;
-    assert_eq!(rt; text.as_str(), "1025 points, at most 1024");
-    Ok(())
+fn a_sample_is_rounded_down_and_bounded(rt: HostRuntime) {
+    let half = gain(32_768);
+    assert!(rt; half.value() == 32_768);
+    assert!(rt; file_sample(clip(scale(-256, half)), Bits::B16) == -1);
+    assert!(rt; file_sample(clip(2 * 30_000 * 256), Bits::B16) == 32_767);
+    assert!(rt; file_sample(i32::MIN, Bits::B24) == -8_388_608);
+    assert!(rt; clip(i64::MAX) == i32::MAX);
+    assert!(rt; Mode::Manual != Mode::Play);
 }

@@ -22,7 +22,8 @@ fn after(t: &Transport, place: u64) -> u64
 pub fn places(t: &Transport, first: u64, out: &mut [u64])
     requires bounds { IsTransport t.now }
     requires frames { first + length out.old ≤ 2 ^ 30 }
-    ensures { out.new ≡ map (λ i. place_of (transport_of t.now) (first + i)) (range_with_len 0 (length out.old)) }
+    ensures { out.new ≡ map (λ i. place_of (transport_of t.now) (first + i))
+        (range_with_len 0 (length out.old)) }
 {
     let n = out.len();
     if n == 0 {

@@ -44,7 +44,8 @@ impl Item {
 
     /// Makes it an item of this kind, and lends its samples to be filled in place. Its room stays.
     pub fn fill_as(&mut self, kind: Kind) -> &mut [i32]
-        ensures* written { sem 𝓛 (Lends the_row (Array i32 0) self.entry result (filled self.old kind)) }
+        ensures* written { sem 𝓛 (Lends the_row (Array i32 0) self.entry result
+            (filled self.old kind)) }
         ensures samples { result.now ≡ self.old.samples.items }
     {
         self.kind = kind;

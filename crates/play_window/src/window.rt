@@ -29,9 +29,17 @@ impl Model for Window {
 
     ghost Value = { WindowState };
 
-    ghost view = { λ w. record { depth = vec_len w.boxes; samples = w.samples; generation = w.generation; next = w.next; mark = w.mark; boxes = w.boxes.items } };
+    ghost view = { λ w. record {
+      depth = vec_len w.boxes;
+      samples = w.samples;
+      generation = w.generation;
+      next = w.next;
+      mark = w.mark;
+      boxes = w.boxes.items;
+    } };
 
-    ghost invariant = { λ w. (0 < vec_len w.boxes) × AllOfRoom (λ item. length item.samples.items) w.samples w.boxes.items };
+    ghost invariant = { λ w. (0 < vec_len w.boxes)
+        × AllOfRoom (λ item. length item.samples.items) w.samples w.boxes.items };
 }
 
 /// What a window answers to an offer: a box either way.
@@ -86,7 +94,8 @@ impl Window {
         requires near { IsNear self.old.depth generation next (kind_of item.value.kind) }
         requires samples { length item.value.samples.items ≡ self.old.samples }
         ensures answer { OfferAnswers self.old
-            (record { generation = generation; next = next; item = item_of item.value }) item result self.new }
+            (record { generation = generation; next = next; item = item_of item.value })
+            item result self.new }
         ensures goes_on { GoesOn self.old generation next self.new }
     {
         if is_later(item.kind, generation) {
@@ -133,7 +142,8 @@ impl Window {
         requires ahead { next ≤ seq }
         requires samples { length item.value.samples.items ≡ self.old.samples }
         ensures { TakesIn self.old
-            (record { generation = generation; next = next; item = item_of item.value }) result self.new }
+            (record { generation = generation; next = next; item = item_of item.value })
+            result self.new }
     {
         self.generation = generation;
         self.next = next;

@@ -19,7 +19,8 @@ pub(crate) fn offer(window: &mut Window, at: PlayPosition, item: Box<Item>) -> B
     requires free { holds at (kind_of item.value.kind) ≡ false }
     requires samples { length item.value.samples.items ≡ window.old.samples }
     ensures { TakesIn window.old
-        (record { generation = at.generation; next = at.next; item = item_of item.value }) result window.new }
+        (record { generation = at.generation; next = at.next; item = item_of item.value })
+        result window.new }
 {
     match window.offer(at.generation, at.next, item) {
         Offer::Husk(husk) => husk,

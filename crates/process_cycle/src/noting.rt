@@ -60,7 +60,8 @@ fn notes(playbacks: &[TrackPlayback], state: State, at: PlayPosition) -> ArrayVe
     requires rolls { IsAt at state }
     requires few { length playbacks.now ≤ 32 }
     ensures { map seen_note result.items
-        ≡ notes_of (seen_state state) (map received_kinds plays) (replicate (length plays) engine.Off) }
+        ≡ notes_of (seen_state state) (map received_kinds plays)
+        (replicate (length plays) engine.Off) }
 {
     let mut notes = ArrayVec::new();
     for playback in playbacks {
@@ -93,7 +94,8 @@ fn state(playbacks: &[TrackPlayback], rolling: bool, at: PlayPosition) -> State
     ghost plays: { List (Receiver Item) }
     requires shown { AreHeard at plays playbacks.now }
     requires few { length playbacks.now ≤ 32 }
-    ensures seen { seen_state result ≡ state_of rolling at.generation at.next (map received_kinds plays) }
+    ensures seen { seen_state result ≡ state_of rolling at.generation at.next
+        (map received_kinds plays) }
     ensures rolls { IsAt at result }
 {
     if !rolling {

@@ -44,7 +44,8 @@ impl TrackPlayback {
         requires room { ring.old.room ≡ self.old.window.samples }
         requires depth { self.old.window.depth ≡ at.depth }
         requires spare { HasRoom self.old.window.samples self.old.spare }
-        requires since { IsNoEarlier self.old.window.generation self.old.window.next at.generation at.next }
+        requires since { IsNoEarlier self.old.window.generation self.old.window.next
+            at.generation at.next }
         requires last { HoldsTheLast ring.old self.old.spare }
         requires tail { self.old.tail ≡ length ring.old.received }
         requires closed { self.old.closed ≡ ring.old.ended }
@@ -70,7 +71,8 @@ impl TrackPlayback {
 
     /// Whether the piece that is played next is in the window.
     pub(crate) fn is_there(&self, at: PlayPosition) -> bool
-        requires { IsNoEarlier self.now.window.generation self.now.window.next at.generation at.next }
+        requires { IsNoEarlier self.now.window.generation self.now.window.next
+            at.generation at.next }
         ensures { (given : List Offered) → IsWindowOf given self.now.window
             → result ≡ has_piece at.generation at.next (kinds given) }
     {

@@ -13,6 +13,7 @@ ghost use Rattle.process_cycle.specs.Made.{MayCycle, Cycles, HasBegun, Hears, Is
 ghost use Rattle.process_cycle.specs.Playing.{IsPlaying};
 
 mod parts;
+mod stores;
 
 use crate::ack_sender::AckSender;
 use crate::cycling::{CycleFault, ack_of, block_after, form_of};
@@ -20,7 +21,7 @@ use crate::ends::ProcessEnds;
 use crate::noting::entry;
 use crate::play_position::PlayPosition;
 use crate::playback::TrackPlayback;
-use crate::playbacks::{any_closed, look_at_all, new_playbacks};
+use crate::playbacks::{any_closed, look_at_all};
 use crate::scratch::Scratch;
 use cycle_journal::{Entry, Journal};
 use edition_log::Edition;
@@ -28,6 +29,7 @@ pub use parts::ProcessParts;
 use ses_io::{Failed, Sink, write_all};
 use std::alloc::Global;
 use std::marker::Model;
+use stores::{Stores, new_stores};
 use wav_codec::WavForm;
 
 /// What a look of all tracks found.
@@ -62,7 +64,17 @@ impl<W> Model for Process<W> {
 
     ghost Value = { ProcessState W };
 
-    ghost view = { λ p. record { master = p.master; ends = p.ends; playbacks = p.playbacks.items; journal = p.journal; depth = p.depth; generation = p.generation; next = p.next; form = written_form p.form; block = p.scratch } };
+    ghost view = { λ p. record {
+      master = p.master;
+      ends = p.ends;
+      playbacks = p.playbacks.items;
+      journal = p.journal;
+      depth = p.depth;
+      generation = p.generation;
+      next = p.next;
+      form = written_form p.form;
+      block = p.scratch;
+    } };
 
     ghost invariant = { λ p. KnowsTheEnds p.ends.plays.items p.playbacks.items };
 }
@@ -83,21 +95,16 @@ impl<W: Sink> Process<W> {
         ensures back { IfErr result (λ w. w ≡ master) }
     {
         let session = e.session();
-        let Ok(playbacks) = new_playbacks(alloc, session) else {
+        let Ok(stores) = new_stores(alloc, session, cycles) else {
             return Err(master);
         };
-        let Ok(journal) = Journal::new(alloc, cycles) else {
-            return Err(master);
-        };
-        let Ok(scratch) = Scratch::new(alloc, session.block) else {
-            return Err(master);
-        };
-        let Ok(to_butler) = AckSender::new(alloc) else {
-            return Err(master);
-        };
-        let Ok(to_control) = AckSender::new(alloc) else {
-            return Err(master);
-        };
+        let Stores {
+            playbacks,
+            journal,
+            scratch,
+            to_butler,
+            to_control,
+        } = stores;
         Ok(Process {
             master,
             ends,

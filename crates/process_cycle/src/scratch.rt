@@ -25,7 +25,8 @@ impl Model for Scratch {
 
     ghost view = { λ s. length s.sums.items };
 
-    ghost invariant = { λ s. (length s.bytes.items ≡ length s.sums.items * 2) × (length s.sums.items < 2 ^ 32) };
+    ghost invariant = { λ s. (length s.bytes.items ≡ length s.sums.items * 2)
+        × (length s.sums.items < 2 ^ 32) };
 }
 
 impl Scratch {
@@ -75,7 +76,8 @@ impl Scratch {
 
     /// Writes so many blocks of silence. It takes no memory.
     pub(crate) fn silence<W: Sink>(&mut self, blocks: u32, master: &mut W) -> Result<(), Failed>
-        ensures writes { Writes W.outside (silence_bytes (blocks * self.old)) master.old master.new result }
+        ensures writes { Writes W.outside (silence_bytes (blocks * self.old))
+            master.old master.new result }
         ensures same { self.new ≡ self.old }
     {
         self.bytes.as_mut_slice().fill(0);
@@ -86,7 +88,8 @@ impl Scratch {
 // Writes a block of zeros so many times.
 fn write_zeros<W: Sink>(zeros: &[u8], blocks: u32, master: &mut W) -> Result<(), Failed>
     requires zeros { zeros.now ≡ replicate (length zeros.now) 0 }
-    ensures { Writes W.outside (replicate (blocks * length zeros.now) 0) master.old master.new result }
+    ensures { Writes W.outside (replicate (blocks * length zeros.now) 0)
+        master.old master.new result }
 {
     for _block in 0..blocks {
         write_all(master, zeros)?;

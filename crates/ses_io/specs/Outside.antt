@@ -33,6 +33,14 @@ pub record MediaOutside (V : Type 0) : Type 1 where
   -- how many calls of `append` and `write_at` failed, likewise
   pub write_faults : V → ℕ
 
+-- a call that reads fails only where the count of failed reads rises
+abbrev pub ReadCause : {V T E : Type 0} → MediaOutside V → V → V → Result T E → Type 0
+ReadCause outside old new result = HasCause (outside.read_faults old) (outside.read_faults new) result
+
+-- a call that writes fails only where the count of failed writes rises
+abbrev pub WriteCause : {V T E : Type 0} → MediaOutside V → V → V → Result T E → Type 0
+WriteCause outside old new result = HasCause (outside.write_faults old) (outside.write_faults new) result
+
 -- no file changed, and no write failed
 pub record OnlyReads {V : Type 0} (outside : MediaOutside V) (old new : V) : Type 0 where
   pub files : outside.files new ≡ outside.files old

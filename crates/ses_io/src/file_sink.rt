@@ -1,6 +1,7 @@
 //! A file of the system as a sink.
 ghost use Rattle.std.specs.Prelude.{◌≡◌, ◌<◌, ◌≤◌, length, IfOk};
 
+use crate::errors::counted;
 use crate::{Failed, Sink, tries};
 use std::fs;
 use std::marker::Model;
@@ -65,9 +66,6 @@ impl<R: Files + Drop> Sink for FileSink<R> {
 
     fn write(&mut self, bytes: &[u8]) -> Result<usize, Failed> {
         let result = self.write_opened(bytes);
-        if result.is_err() {
-            self.faults = self.faults.saturating_add(1);
-        }
-        result
+        counted(&mut self.faults, result)
     }
 }

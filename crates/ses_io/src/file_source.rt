@@ -1,6 +1,7 @@
 //! A file of the system as a source.
 ghost use Rattle.std.specs.Prelude.{◌≡◌, ◌≤◌, length, IfOk};
 
+use crate::errors::counted;
 use crate::{Failed, Source, tries};
 use std::fs;
 use std::io::ErrorKind;
@@ -81,9 +82,6 @@ impl<R: Files + Drop> Source for FileSource<R> {
 
     fn read(&mut self, buf: &mut [u8]) -> Result<usize, Failed> {
         let result = self.read_opened(buf);
-        if result.is_err() {
-            self.faults = self.faults.saturating_add(1);
-        }
-        result
+        counted(&mut self.faults, result)
     }
 }

@@ -54,6 +54,20 @@ impl<R: Files + AllocGlobal + Clone + Drop> Folder<R> {
         }
     }
 
+    /// The kept file, if it is the one of that name. Otherwise opens that one, None where it is
+    /// absent, and closes the kept one.
+    pub(crate) fn open_kept(
+        &mut self,
+        kept: Option<Kept<R::File>>,
+        name: &str,
+        how: &OpenOptions,
+    ) -> Result<Option<Kept<R::File>>, Failed> {
+        match kept {
+            Some(kept) if kept.name.as_str() == name => Ok(Some(kept)),
+            _ => self.open(name, how),
+        }
+    }
+
     /// The bytes of the file, None where it is absent.
     pub(crate) fn size(&mut self, name: &str) -> Result<Option<u64>, Failed> {
         self.find(name).map_err(|_| Failed)?;

@@ -1,7 +1,7 @@
 //! A folder of the system as a media.
 ghost use Rattle.std.specs.Prelude.{◌≡◌, ◌<◌, ◌≤◌, length, IfOk};
-ghost use Rattle.ses_io.specs.Faults.{HasCause};
 
+use crate::errors::counted;
 use crate::folder::{Folder, Kept};
 use crate::{Failed, Media, tries};
 use std::fs::OpenOptions;
@@ -50,12 +50,12 @@ where
         ensures count { IfOk result (λ n. n ≤ length buf.new) }
         ensures faults { self.new ≡ self.old }
     {
-        let kept = match self.read.take() {
-            Some(kept) if kept.name.as_str() == name => kept,
-            _ => match self.folder.open(name, OpenOptions::new().read(true))? {
-                Some(kept) => kept,
-                None => return Ok(0),
-            },
+        let kept = self.read.take();
+        let Some(kept) = self
+            .folder
+            .open_kept(kept, name, OpenOptions::new().read(true))?
+        else {
+            return Ok(0);
         };
         let n = tries::read_at(&kept.file, at, buf)?;
         self.read = Some(kept);
@@ -68,15 +68,12 @@ where
         ensures faults { self.new ≡ self.old }
     {
         self.close(name);
-        let mut kept = match self.grown.take() {
-            Some(kept) if kept.name.as_str() == name => kept,
-            _ => match self
-                .folder
-                .open(name, OpenOptions::new().append(true).create(true))?
-            {
-                Some(kept) => kept,
-                None => return Err(Failed),
-            },
+        let kept = self.grown.take();
+        let Some(mut kept) = self
+            .folder
+            .open_kept(kept, name, OpenOptions::new().append(true).create(true))?
+        else {
+            return Err(Failed);
         };
         let n = tries::write(&mut kept.file, bytes)?;
         self.grown = Some(kept);
@@ -105,28 +102,6 @@ where
             self.read = None;
         }
     }
-
-    fn count_read<T>(&mut self, outcome: Result<T, Failed>) -> Result<T, Failed>
-        ensures outcome { result ≡ outcome }
-        ensures cause { HasCause self.old.read_faults self.new.read_faults result }
-        ensures other { self.new.write_faults ≡ self.old.write_faults }
-    {
-        if outcome.is_err() {
-            self.read_faults = self.read_faults.saturating_add(1);
-        }
-        outcome
-    }
-
-    fn count_write<T>(&mut self, outcome: Result<T, Failed>) -> Result<T, Failed>
-        ensures outcome { result ≡ outcome }
-        ensures cause { HasCause self.old.write_faults self.new.write_faults result }
-        ensures other { self.new.read_faults ≡ self.old.read_faults }
-    {
-        if outcome.is_err() {
-            self.write_faults = self.write_faults.saturating_add(1);
-        }
-        outcome
-    }
 }
 
 impl<R: Files + AllocGlobal + Clone + Drop> Media for FolderMedia<R>
@@ -144,26 +119,26 @@ where
 
     fn size(&mut self, name: &str) -> Result<Option<u64>, Failed> {
         let outcome = self.folder.size(name);
-        self.count_read(outcome)
+        counted(&mut self.read_faults, outcome)
     }
 
     fn any(&mut self, prefix: &str) -> Result<bool, Failed> {
         let outcome = self.folder.any(prefix);
-        self.count_read(outcome)
+        counted(&mut self.read_faults, outcome)
     }
 
     fn read_at(&mut self, name: &str, at: u64, buf: &mut [u8]) -> Result<usize, Failed> {
         let outcome = self.try_read(name, at, buf);
-        self.count_read(outcome)
+        counted(&mut self.read_faults, outcome)
     }
 
     fn append(&mut self, name: &str, bytes: &[u8]) -> Result<usize, Failed> {
         let outcome = self.try_append(name, bytes);
-        self.count_write(outcome)
+        counted(&mut self.write_faults, outcome)
     }
 
     fn write_at(&mut self, name: &str, at: u64, bytes: &[u8]) -> Result<usize, Failed> {
         let outcome = self.try_write(name, at, bytes);
-        self.count_write(outcome)
+        counted(&mut self.write_faults, outcome)
     }
 }

@@ -1,6 +1,7 @@
 //! Any reader of std as a source, as standard input.
 ghost use Rattle.std.specs.Prelude.{◌≡◌};
 
+use crate::errors::counted;
 use crate::{Failed, Source, tries};
 use std::io::Read;
 use std::marker::Model;
@@ -39,9 +40,6 @@ impl<T: Read + Drop> Source for ReadSource<T> {
 
     fn read(&mut self, buf: &mut [u8]) -> Result<usize, Failed> {
         let result = tries::read(&mut self.reader, buf);
-        if result.is_err() {
-            self.faults = self.faults.saturating_add(1);
-        }
-        result
+        counted(&mut self.faults, result)
     }
 }

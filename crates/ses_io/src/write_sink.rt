@@ -1,6 +1,7 @@
 //! Any writer of std as a sink, as standard output.
 ghost use Rattle.std.specs.Prelude.{◌≡◌};
 
+use crate::errors::counted;
 use crate::{Failed, Sink, tries};
 use std::io::Write;
 use std::marker::Model;
@@ -40,9 +41,6 @@ impl<T: Write + Drop> Sink for WriteSink<T> {
 
     fn write(&mut self, bytes: &[u8]) -> Result<usize, Failed> {
         let result = tries::write(&mut self.writer, bytes);
-        if result.is_err() {
-            self.faults = self.faults.saturating_add(1);
-        }
-        result
+        counted(&mut self.faults, result)
     }
 }

@@ -35,7 +35,8 @@ impl Model for Name {
 
     ghost inverse = { λ text. record { bytes = padded text; size = length text } };
 
-    ghost inverse_ok = { λ n h. let made : List ℕ → ℕ → Inside = λ b k. record { bytes = b; size = k } in
+    ghost inverse_ok = { λ n h. let made : List ℕ → ℕ → Inside =
+        λ b k. record { bytes = b; size = k } in
         let sized = λ (b : List ℕ). made b (length (take n.size n.bytes)) in
         ap sized (sym h.full) ∙ ap (made n.bytes) h.long };
 }

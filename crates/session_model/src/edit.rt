@@ -3,7 +3,7 @@ use ses_units::{Mode, Name};
 
 /// A change that a control line asks for. Routes, tracks and sources go by their names, gains are
 /// in 65,536ths, and places and lengths are in frames; an edit may ask for what is refused.
-#[derive(Clone, Copy, Debug, PartialEq, Eq)]
+#[derive(Clone, Copy)]
 pub enum Edit {
     /// The transport rolls.
     Roll,

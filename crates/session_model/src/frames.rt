@@ -16,7 +16,8 @@ pub trait Frames: Drop {
         requires source { source < length (outside.channels self.old) }
         requires whole { length out.old % slice_index (outside.channels self.old) source ≡ 0 }
         ensures told { outside.tells → OnOk result (out.new ≡ interleaved
-            (sounds_of (outside.frames self.old) source) (slice_index (outside.channels self.old) source)
+            (sounds_of (outside.frames self.old) source)
+            (slice_index (outside.channels self.old) source)
             from (length out.new)) }
         ensures range { OnOk result (All IsSample out.new) }
         ensures channels { outside.channels self.new ≡ outside.channels self.old }

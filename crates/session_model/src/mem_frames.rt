@@ -25,7 +25,8 @@ impl Model for MemFrames {
 
     ghost Value = { FramesState };
 
-    ghost view = { λ m. let plan : PlannedCalls = record { calls = m.calls; fails = m.fails.items } in
+    ghost view = { λ m. let plan : PlannedCalls =
+        record { calls = m.calls; fails = m.fails.items } in
         record { sources = m.sources.items; plan = plan; faults = m.faults } };
 }
 

@@ -38,7 +38,7 @@ pub struct Place {
 }
 
 /// Why a session is refused. Names are those of routes and sources.
-#[derive(Clone, Copy, Debug, PartialEq, Eq)]
+#[derive(Clone, Copy, PartialEq, Eq)]
 pub enum SessionRefusal {
     /// There is no file of that name.
     Absent,

@@ -2,6 +2,7 @@
 use Rattle.std.specs.Prelude.{◌≡◌, ℕ, ◌≤◌, true, false, List, [], slice_get, Option, Some, None, Result, Ok, Err}
 use Rattle.ses_io.specs.Faults.{risen}
 use Rattle.ses_io.specs.Files.{Files}
+use Rattle.ses_io.specs.Outside.{MediaOutside}
 use Rattle.session_model.specs.declared.session.SourceDecl.{SourceDecl}
 use Rattle.session_model.specs.Valid.{IsValid}
 use Rattle.engine_model.specs.PlainSession.{is_plain}
@@ -71,13 +72,13 @@ refusal_at sources place why = refusal_of (slice_get sources place) why
 -- ---- causes
 
 -- a failed read is answered only where the count rose; else it stays
-abbrev pub Caused : {A : Type 0} → ℕ → ℕ → Result A Unopened → Type 0
-Caused before now (Ok a) = now ≡ before
-Caused before now (Err ReadFault) = risen before ≤ now
-Caused before now (Err (Session refusal)) = now ≡ before
-Caused before now (Err NotBuilt) = now ≡ before
-Caused before now (Err (Source name why)) = now ≡ before
-Caused before now (Err NoMemory) = now ≡ before
+abbrev pub Caused : {V A : Type 0} → MediaOutside V → V → V → Result A Unopened → Type 0
+Caused outside old new (Ok a) = outside.read_faults new ≡ outside.read_faults old
+Caused outside old new (Err ReadFault) = risen (outside.read_faults old) ≤ outside.read_faults new
+Caused outside old new (Err (Session refusal)) = outside.read_faults new ≡ outside.read_faults old
+Caused outside old new (Err NotBuilt) = outside.read_faults new ≡ outside.read_faults old
+Caused outside old new (Err (Source name why)) = outside.read_faults new ≡ outside.read_faults old
+Caused outside old new (Err NoMemory) = outside.read_faults new ≡ outside.read_faults old
 
 abbrev pub by_read : Unread → Unopened
 by_read unread.Fault = ReadFault

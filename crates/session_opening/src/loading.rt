@@ -34,7 +34,7 @@ fn text_in<M: Media>(alloc: Global, media: &mut M, name: &str) -> Result<Vec<u8>
     ensures told { M.outside.tells
         → Gives (λ v. v.items) (spec.text_in (M.outside.files media.old name.now)) result }
     ensures only_reads { OnlyReads M.outside media.old media.new }
-    ensures cause { Caused (M.outside.read_faults media.old) (M.outside.read_faults media.new) result }
+    ensures cause { Caused M.outside media.old media.new result }
 {
     let Some(size) = media.size(name)? else {
         return Err(Unopened::Session(SessionRefusal::Absent));
@@ -54,7 +54,7 @@ fn session_in<M: Media>(alloc: Global, media: &mut M, name: &str) -> Result<Sess
     ensures valid { IfOk result IsValid }
     ensures plain { IfOk result (λ s. is_plain s ≡ true) }
     ensures only_reads { OnlyReads M.outside media.old media.new }
-    ensures cause { Caused (M.outside.read_faults media.old) (M.outside.read_faults media.new) result }
+    ensures cause { Caused M.outside media.old media.new result }
 {
     let text = text_in(alloc, media, name)?;
     let session = session_of(alloc, &text)?;
@@ -82,12 +82,13 @@ fn sources_in<M: Media>(
     session: &Session,
 ) -> Result<Sources, Unopened>
     ensures told { M.outside.tells → Gives (λ o. tt)
-        (spec.sources_in (M.outside.files media.old) session.now.rate session.now.sources.items) result }
+        (spec.sources_in (M.outside.files media.old) session.now.rate
+        session.now.sources.items) result }
     ensures listed { IfOk result (IsListed session.now.rate session.now.sources.items) }
     ensures heads { M.outside.tells → IfOk result
         (IsOpened (M.outside.files media.old) session.now.rate session.now.sources.items) }
     ensures only_reads { OnlyReads M.outside media.old media.new }
-    ensures cause { Caused (M.outside.read_faults media.old) (M.outside.read_faults media.new) result }
+    ensures cause { Caused M.outside media.old media.new result }
 {
     match Sources::new(alloc, media, &session.sources, session.rate) {
         Ok(sources) => Ok(sources),
@@ -109,7 +110,7 @@ pub fn open<M: Media>(alloc: Global, media: &mut M, export: &Export<'_>) -> Resu
     ensures played { IfOk result IsLoaded }
     ensures heads { M.outside.tells → IfOk result (HasHeads (M.outside.files media.old)) }
     ensures only_reads { OnlyReads M.outside media.old media.new }
-    ensures cause { Caused (M.outside.read_faults media.old) (M.outside.read_faults media.new) result }
+    ensures cause { Caused M.outside media.old media.new result }
 {
     let session = session_in(alloc, media, export.session)?;
     let sources = sources_in(alloc, media, &session)?;

@@ -2,13 +2,13 @@
 ghost use Rattle.std.specs.Prelude.{◌≡◌, take, IfOk};
 ghost use Rattle.ses_io.specs.Outside.{OnlyReads};
 ghost use Rattle.ses_io.specs.Files.{content};
-ghost use Rattle.session_opening.specs.Causes.{ReadCause};
+ghost use Rattle.session_opening.specs.Causes.{UnreadCause};
 
 use ses_io::{Failed, Media, read_at_full};
 use std::alloc::{AllocError, Global};
 
 /// Why a file isn't read.
-#[derive(Clone, Copy, Debug, PartialEq, Eq)]
+#[derive(Clone, Copy, PartialEq, Eq)]
 pub enum Unread {
     /// A read failed, and the media's count of them rose.
     Fault,
@@ -47,7 +47,7 @@ pub(crate) fn read_whole<M: Media>(
     ensures bytes { M.outside.tells
         → IfOk result (λ v. v.items ≡ take size (content (M.outside.files media.old) name.now)) }
     ensures only_reads { OnlyReads M.outside media.old media.new }
-    ensures cause { ReadCause (M.outside.read_faults media.old) (M.outside.read_faults media.new) result }
+    ensures cause { UnreadCause M.outside media.old media.new result }
 {
     let mut bytes = vec![in alloc; 0; size as usize]?;
     let filled = read_at_full(media, name, 0, bytes.as_mut_slice())?;

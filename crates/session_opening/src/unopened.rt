@@ -7,7 +7,7 @@ use session_model::SessionRefusal;
 use session_toml::SessionFault;
 
 /// Why an export isn't played: the first of these that holds. ReadFault and NoMemory may stand in place of each.
-#[derive(Clone, Copy, Debug, PartialEq, Eq)]
+#[derive(Clone, Copy, PartialEq, Eq)]
 pub enum Unopened {
     /// The session's file is absent or too long, or its text breaks this rule.
     Session(SessionRefusal),

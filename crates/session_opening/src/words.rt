@@ -106,7 +106,8 @@ impl<'a> Positionals<'a> {
 
 // The positional words, where there are three.
 fn positional<'a>(words: &[&'a str]) -> Option<Three<'a>>
-    ensures { option_map three_words result ≡ spec.three (spec.positional (map (λ w. w.now) words.now)) }
+    ensures { option_map three_words result
+        ≡ spec.three (spec.positional (map (λ w. w.now) words.now)) }
 {
     let mut all = Positionals {
         found: ArrayVec::new(),

@@ -2,3 +2,4 @@
 pub mod SoundLemmas
 pub mod StatusLemmas
 pub mod PlayedLemmas
+pub mod DoesLemmas

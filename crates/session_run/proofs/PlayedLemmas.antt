@@ -107,10 +107,10 @@ module _ {M I C W O : Type 0} (outside : MediaOutside M) (sink : SinkOutside W) 
 
   -- by the reason
   pub unplayed : (plan : Open Plan) (asked : Option Export) (why : Unopened) (old now : World M I C W O) (media : M) → (outside.tells → Refuses plan why) → now ≡ record old { media = media } → OnlyReads outside old.media media →
-      Caused {A = Unit {0}} (outside.read_faults old.media) (outside.read_faults media) (Err why) → (new : Outcome M I C W O) → new.status ≡ status_of why → new.world ≡ now → new.journal ≡ None → new.rings.items ≡ [] → new.acks ≡ None →
+      Caused {A = Unit {0}} outside old.media media (Err why) → (new : Outcome M I C W O) → new.status ≡ status_of why → new.world ≡ now → new.journal ≡ None → new.rings.items ≡ [] → new.acks ≡ None →
       Does plan asked old new
   unplayed plan asked why old now media refuses is only cause new says world journal rings acks = idle plan asked (status_of why) old now media (λ t. status.unplayed_ends plan why (refuses t)) (inr (inr (inr (why, refl)))) (status.not_done why)
-      (status.not_master why) (status.unplayed_reads (outside.read_faults old.media) (outside.read_faults media) why cause) is only new says world journal rings acks
+      (status.not_master why) (status.unplayed_reads outside old.media media why cause) is only new says world journal rings acks
 
   -- what is so of a media once it was read is so of it before
   pub reopened : (plan other : Result Plan Wrong) (asked : Option Export) (old : World M I C W O) (media : M) (new : Outcome M I C W O) → (outside.tells → other ≡ plan) → OnlyReads outside old.media media →

@@ -3,6 +3,7 @@ use Rattle.std.proofs.Common.{◌≡◌, ℕ, ◌<◌, ◌≤◌, ◌⊎◌, inl
 use Rattle.std.specs.Prelude.{Bool, true, false, if◌then◌else◌, Option, Some, None, IsSome, IsOk, Result, Ok, Err}
 use Rattle.std.proofs.lemmas.Bool.{true≢false}
 use Rattle.ses_io.specs.Faults.{risen}
+use Rattle.ses_io.specs.Outside.{MediaOutside}
 use Rattle.cycle_journal.specs.declared.status.Status.{Status}
 use Rattle.cycle_journal.specs.declared.status.Status.TheVariants.{Done, Usage, MasterFault, NoMemory}
 use Rattle.cycle_journal.specs.declared.status.Status.TheVariants as status
@@ -41,14 +42,15 @@ unplayed_ends (Err w) unopened.NoMemory is = inr (inr refl)
 pub quiet : (before now : ℕ) (s : Status) → now ≡ before → (s ≡ status.ReadFault → ⊥) → ReadsFailed before now s
 quiet before now s same not = record { later = λ _. omega (arith, same); cause = λ is. absurd (not is); same = λ _ _. same }
 
-pub unplayed_reads : (before now : ℕ) (why : Unopened) → Caused {A = Unit {0}} before now (Err why) → ReadsFailed before now (status_of why)
-unplayed_reads before now (Session refusal) cause = quiet before now (status.Session refusal) cause (λ is. cc)
-unplayed_reads before now NotBuilt cause = quiet before now status.NotBuilt cause (λ is. cc)
-unplayed_reads before now (Source name why) cause = quiet before now (status.SourceFile name why) cause (λ is. cc)
-unplayed_reads before now ReadFault cause = record { later = λ is. absurd (other is); cause = λ _. cause; same = λ not _. absurd (not refl) } where
-  other : status.ReadFault ≡ MasterFault → ⊥
-  other is = cc
-unplayed_reads before now unopened.NoMemory cause = quiet before now NoMemory cause (λ is. cc)
+module _ {V : Type 0} (outside : MediaOutside V) (old new : V) where
+  pub unplayed_reads : (why : Unopened) → Caused {A = Unit {0}} outside old new (Err why) → ReadsFailed (outside.read_faults old) (outside.read_faults new) (status_of why)
+  unplayed_reads (Session refusal) cause = quiet (outside.read_faults old) (outside.read_faults new) (status.Session refusal) cause (λ is. cc)
+  unplayed_reads NotBuilt cause = quiet (outside.read_faults old) (outside.read_faults new) status.NotBuilt cause (λ is. cc)
+  unplayed_reads (Source name why) cause = quiet (outside.read_faults old) (outside.read_faults new) (status.SourceFile name why) cause (λ is. cc)
+  unplayed_reads ReadFault cause = record { later = λ is. absurd (other is); cause = λ _. cause; same = λ not _. absurd (not refl) } where
+    other : status.ReadFault ≡ MasterFault → ⊥
+    other is = cc
+  unplayed_reads unopened.NoMemory cause = quiet (outside.read_faults old) (outside.read_faults new) NoMemory cause (λ is. cc)
 
 pub not_usage : (why : Unopened) → status_of why ≡ Usage → ⊥
 not_usage (Session refusal) is = cc

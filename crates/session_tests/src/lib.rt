@@ -1,15 +1,11 @@
-//! Values from outside for what is made of a session: routes, places, editions, windows, journals and plans.
+//! Values from outside for what is made of a session: orders of routes, places and windows.
 #![tactic(auto)]
 
 #[cfg(test)]
-mod editions;
-#[cfg(test)]
-mod journals;
-#[cfg(test)]
 mod places;
 #[cfg(test)]
-mod plans;
-#[cfg(test)]
 mod route_orders;
+#[cfg(test)]
+mod row;
 #[cfg(test)]
 mod windows;

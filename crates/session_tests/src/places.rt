@@ -1,10 +1,9 @@
 //! Places by hand: round a loop, and from a target past it.
-
+use crate::row::row_holds;
 use locate_loop::{Transport, Wrap, places};
-use std::test::Fail;
 
-#[test]
-fn a_loop_goes_round_from_its_start(rt: HostRuntime) -> Result<(), Fail> {
+// Whether a loop goes round from its start.
+fn goes_round() -> bool {
     let looped = Transport {
         generation: 1,
         target: 2,
@@ -13,15 +12,14 @@ fn a_loop_goes_round_from_its_start(rt: HostRuntime) -> Result<(), Fail> {
     };
     let mut out = [0; 8];
     places(&looped, 0, &mut out);
-    assert_eq!(rt; out, [2, 3, 4, 2, 3, 4, 2, 3]);
+    let first = out == [2, 3, 4, 2, 3, 4, 2, 3];
     places(&looped, 5, &mut out);
-    assert_eq!(rt; out, [4, 2, 3, 4, 2, 3, 4, 2]);
-    assert_eq!(rt; looped.place(3_000_001), 3);
-    Ok(())
+    let sixth = out == [4, 2, 3, 4, 2, 3, 4, 2];
+    first && sixth && looped.place(3_000_001) == 3
 }
 
-#[test]
-fn a_target_past_the_loop_plays_on(rt: HostRuntime) -> Result<(), Fail> {
+// Whether a target past the loop plays on.
+fn plays_on() -> bool {
     let past = Transport {
         generation: 2,
         target: 6,
@@ -30,6 +28,11 @@ fn a_target_past_the_loop_plays_on(rt: HostRuntime) -> Result<(), Fail> {
     };
     let mut out = [0; 8];
     places(&past, 0, &mut out);
-    assert_eq!(rt; out, [6, 7, 8, 9, 10, 11, 12, 13]);
-    Ok(())
+    out == [6, 7, 8, 9, 10, 11, 12, 13]
+}
+
+#[test]
+fn a_loop_goes_round_and_a_target_past_it_plays_on(rt: HostRuntime) {
+    row_holds(&rt, 0, goes_round());
+    row_holds(&rt, 1, plays_on());
 }

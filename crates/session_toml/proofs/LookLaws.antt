@@ -1,10 +1,30 @@
 -- Names that are looked up: what stands at the place of a name.
-use Rattle.std.proofs.Common.{◌≡◌, ℕ, zero, suc, ◌+◌, ◌<◌, ◌≤◌, ◌⊎◌, inl, inr, Bool, true, false, refl, ap, ◌∙◌, subst, arith, List, [], ◌∷◌, ◌++◌, length, map, find, slice_get, All, Some, None, bytes_eq}
+use Rattle.std.proofs.Common.{◌≡◌, ℕ, zero, suc, ◌+◌, ◌<◌, ◌≤◌, ◌⊎◌, inl, inr, Bool, true, false, refl, ap, ◌∙◌, subst, arith, List, [], ◌∷◌, ◌++◌, length, map, find, slice_get, All, Option, Some, None, bytes_eq, ◌||◌}
+use Rattle.std.specs.Prelude.{if◌then◌else◌, is_some}
+use Rattle.std.specs.Option.{option_copied}
+use Rattle.std.specs.Borrow.{Bor}
 use Rattle.std.specs.List.{list_any}
 use Rattle.std.proofs.lemmas.List.Elements.{All-head, All-tail}
 use Rattle.sound_laws.proofs.Cases.{by_test, or_parts}
 use Rattle.session_toml.specs.Built.{place_of, numbered}
 use Rattle.session_toml.proofs.PlaceLaws.{place-here, place-later}
+
+-- ---- the first item that a test holds of
+
+picked : {A : Type 0} (b : Bool) (x : A) (o : Option A) → is_some (if b then Some x else o) ≡ (b || is_some o)
+picked true x o = refl
+picked false x o = refl
+
+found_any : {A : Type 0} (test : A → Bool) (xs : List A) → is_some (find test xs) ≡ list_any test xs
+found_any test [] = refl
+found_any test (x ∷ xs) = picked (test x) x (find test xs) ∙ ap (λ b. test x || b) (found_any test xs)
+
+copied : {A : Type 0} (r : Option (Bor A)) → is_some r ≡ is_some (option_copied r)
+copied (Some x) = refl
+copied None = refl
+
+pub any_found : {A : Type 0} (test : A → Bool) (xs : List A) (r : Option (Bor A)) → option_copied r ≡ find test xs → is_some r ≡ list_any test xs
+any_found test xs r is = copied r ∙ ap is_some is ∙ found_any test xs
 
 -- ---- items at places
 

@@ -215,7 +215,8 @@ pub(crate) fn tracks_in(
     requires names { length names.now ≤ 64 }
     requires few { length texts.now ≤ 32 }
     requires playable { All (λ k. ArePlayable k.regions.items) texts.now }
-    ensures { IfOk result (λ l. l ≡ spec.listed 32 (spec.numbered (spec.track_in names.now) 0 texts.now)) }
+    ensures { IfOk result (λ l. l ≡ spec.listed 32
+        (spec.numbered (spec.track_in names.now) 0 texts.now)) }
 {
     let mut tracks = TrackList::new(alloc, TRACKS)?;
     for (i, text) in texts.iter().enumerate() {

@@ -4,3 +4,4 @@ pub mod PartRangeLaws
 pub mod RangeLaws
 pub mod SaysKeyLaws
 pub mod SaysLaws
+pub mod StopLaws

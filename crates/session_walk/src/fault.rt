@@ -4,7 +4,7 @@ use session_model::SessionRefusal;
 use std::alloc::{AllocError, AllocFailed};
 
 /// Why no session was read.
-#[derive(Clone, Copy, Debug, PartialEq, Eq)]
+#[derive(Clone, Copy)]
 pub enum SessionFault {
     /// The first rule that the text breaks.
     Refused(SessionRefusal),

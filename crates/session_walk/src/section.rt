@@ -46,7 +46,8 @@ fn is_known(known: &[Key], text: &str) -> bool
 
 fn are_known(known: &[Key], table: &Table) -> bool
     ensures { result
-        ≡ list_all (λ text. list_any (λ k. bytes_eq (string_bytes text) (words.word k)) known.now) (keys table.now) }
+        ≡ list_all (λ text. list_any (λ k. bytes_eq (string_bytes text) (words.word k)) known.now)
+        (keys table.now) }
 {
     table.keys().all(|text| is_known(known, text.as_str()))
 }

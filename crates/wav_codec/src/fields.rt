@@ -8,7 +8,7 @@ use crate::refusal::WavRefusal;
 use std::marker::Model;
 
 /// The five fields that are judged. The bytes per second aren't.
-#[derive(Clone, Copy, Debug)]
+#[derive(Clone, Copy)]
 pub(crate) struct Fields {
     pub(crate) tag: u16,
     pub(crate) channels: u16,
@@ -18,7 +18,7 @@ pub(crate) struct Fields {
 }
 
 /// A form that is read.
-#[derive(Clone, Copy, Debug)]
+#[derive(Clone, Copy)]
 pub(crate) struct Format {
     pub(crate) channels: u16,
     pub(crate) rate: u32,

@@ -26,7 +26,7 @@ pub struct Want {
 }
 
 /// What a scan knows after a piece.
-#[derive(Debug, Drop)]
+#[derive(Drop)]
 pub enum Step {
     /// A further piece is wanted.
     More(Scan),
@@ -35,13 +35,13 @@ pub enum Step {
 }
 
 /// A scan of the head of a file that is never held whole.
-#[derive(Debug, Drop)]
+#[derive(Drop)]
 pub struct Scan {
     size: Option<u64>,
     stage: Stage,
 }
 
-#[derive(Clone, Copy, Debug)]
+#[derive(Clone, Copy)]
 enum Stage {
     // The first 12 bytes.
     Riff,

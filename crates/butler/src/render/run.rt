@@ -1,7 +1,6 @@
 //! A run of places that follow one another: silence, the frames of a region's source, silence.
 ghost use Rattle.std.specs.Prelude.{◌≡◌, ◌+◌, ◌-◌, ◌≤◌, ◌^◌, min, ◌∷◌, [], pos, length, replicate, OnOk};
-ghost use Rattle.ses_io.specs.Faults.{HasCause};
-ghost use Rattle.ses_io.specs.Outside.{OnlyReads};
+ghost use Rattle.ses_io.specs.Outside.{OnlyReads, ReadCause};
 ghost use Rattle.sound_model.specs.Layers.{track_sample};
 ghost use Rattle.session_model.specs.Frames.{interleaved};
 ghost use Rattle.session_model.specs.Region.{region_of};
@@ -60,11 +59,12 @@ pub(crate) fn run<M: Media>(
 ) -> Result<(), ReadFault>
     requires heard { IsHeardPlainly sources.old (region_of region.now) }
     ensures told { M.outside.tells → OnOk result (out.new ≡ interleaved
-        (λ x c. track_sample (source_sound (M.outside.files media.old) sources.old) (region_of region.now ∷ []) c x)
+        (λ x c. track_sample (source_sound (M.outside.files media.old) sources.old)
+        (region_of region.now ∷ []) c x)
         1 place (length out.old)) }
     ensures sources { sources.new ≡ sources.old }
     ensures only_reads { OnlyReads M.outside media.old media.new }
-    ensures cause { HasCause (M.outside.read_faults media.old) (M.outside.read_faults media.new) result }
+    ensures cause { ReadCause M.outside media.old media.new result }
 {
     let part = covered(region, place, out.len());
     silence_around(part, out);

@@ -1,8 +1,9 @@
 //! Runs with their steps: what a butler sends of three tracks, as it was worked out.
+use super::sessions::{DEEP, LOUD, SHALLOW};
+use crate::bench::File;
 use butler::Turn;
 
 /// A step of a run, with what it has to answer.
-#[derive(Clone, Copy)]
 pub(crate) enum Step {
     Roll,
     Locate(u64),
@@ -20,96 +21,17 @@ pub(crate) enum Step {
     Turns(u32, u64, u32),
 }
 
-/// A run: its session, how many items a ring takes, how many cycles are asked for, and the steps.
+/// A run: its session and files, how many cycles are asked for, and the steps.
 pub(crate) struct Run {
-    /// The session's text before its depth.
-    pub(crate) head: &'static str,
-    /// And behind it.
-    pub(crate) tracks: &'static str,
-    pub(crate) depth: u32,
+    pub(crate) files: &'static [File],
     pub(crate) cycles: u32,
     pub(crate) steps: &'static [Step],
 }
 
-// Blocks of two frames.
-const TWO: &str = "[session]\nversion = 1\nrate = 48000\nbits = 16\nchannels = 1\nblock = 2\n";
-
-// Blocks of four frames.
-const FOUR: &str = "[session]\nversion = 1\nrate = 48000\nbits = 16\nchannels = 1\nblock = 4\n";
-
-// The first track plays samples 1 to 4 from place 0 on, the second one 2 to 4 from place 3 on, the third one nothing.
-const NARROW: &str = "
-[[source]]
-name = \"a\"
-file = \"a.wav\"
-channels = 1
-
-[[track]]
-name = \"t\"
-channels = 1
-
-[[track.region]]
-id = 1
-source = \"a\"
-length = 4
-at = 0
-
-[[track]]
-name = \"u\"
-channels = 1
-
-[[track.region]]
-id = 1
-source = \"a\"
-start = 1
-length = 3
-at = 3
-
-[[track]]
-name = \"v\"
-channels = 1
-";
-
-// The first track plays samples 3 to 5 from place 4 on, the second one 5 and 6 from place 1 on and then past the file.
-const WIDE: &str = "
-[[source]]
-name = \"b\"
-file = \"b.wav\"
-channels = 1
-
-[[track]]
-name = \"t\"
-channels = 1
-
-[[track.region]]
-id = 1
-source = \"b\"
-start = 2
-length = 3
-at = 4
-
-[[track]]
-name = \"u\"
-channels = 1
-
-[[track.region]]
-id = 1
-source = \"b\"
-start = 4
-length = 100
-at = 1
-
-[[track]]
-name = \"v\"
-channels = 1
-";
-
-pub(crate) const RUNS: [Run; 7] = [
+pub(crate) const RUNS: &[Run] = &[
     // a ring of two gets a mark and pieces ahead
     Run {
-        head: TWO,
-        tracks: NARROW,
-        depth: 2,
+        files: SHALLOW,
         cycles: 100,
         steps: &[
             Step::Turn(100, Turn::Moved(6)),
@@ -134,9 +56,7 @@ pub(crate) const RUNS: [Run; 7] = [
     },
     // a ring of eight gets seven pieces behind its mark
     Run {
-        head: TWO,
-        tracks: NARROW,
-        depth: 8,
+        files: DEEP,
         cycles: 100,
         steps: &[
             Step::Turn(100, Turn::Moved(24)),
@@ -153,9 +73,7 @@ pub(crate) const RUNS: [Run; 7] = [
     },
     // after a locate its mark and its places follow
     Run {
-        head: TWO,
-        tracks: NARROW,
-        depth: 8,
+        files: DEEP,
         cycles: 100,
         steps: &[
             Step::Roll,
@@ -180,9 +98,7 @@ pub(crate) const RUNS: [Run; 7] = [
     },
     // no block is sent past the asked cycles
     Run {
-        head: TWO,
-        tracks: NARROW,
-        depth: 8,
+        files: DEEP,
         cycles: 3,
         steps: &[
             Step::Turn(4, Turn::Moved(4)),
@@ -203,17 +119,13 @@ pub(crate) const RUNS: [Run; 7] = [
     },
     // a thousand turns each send or find nothing to send: the first sends six, and each that follows a taking three
     Run {
-        head: TWO,
-        tracks: NARROW,
-        depth: 2,
+        files: SHALLOW,
         cycles: 100_000,
         steps: &[Step::Turns(1000, 6 + 499 * 3, 500)],
     },
     // silence stands around a region within a block, which its first frame may cut
     Run {
-        head: FOUR,
-        tracks: WIDE,
-        depth: 8,
+        files: LOUD,
         cycles: 100,
         steps: &[
             Step::Locate(2),
@@ -226,9 +138,7 @@ pub(crate) const RUNS: [Run; 7] = [
     },
     // a region past its source is silent there
     Run {
-        head: FOUR,
-        tracks: WIDE,
-        depth: 8,
+        files: LOUD,
         cycles: 100,
         steps: &[
             Step::Turn(100, Turn::Moved(24)),

@@ -1,59 +1,36 @@
 //! A list of a fixed room, once.
-use ses_io::{FixedList, NoMemory};
+use session_model::Samples;
 use std::alloc::Global;
 
-fn push(list: &mut FixedList<u32>, item: u32) {
-    if !list.is_full() {
-        list.push(item);
-    }
-}
-
-fn pop(list: &mut FixedList<u32>) -> Option<u32> {
-    if list.is_empty() {
-        return None;
-    }
-    Some(list.pop())
-}
-
-// Room for two, filled with 7 and 8, of which the first becomes 9.
-fn filled(alloc: Global) -> Result<FixedList<u32>, NoMemory> {
-    let mut list = FixedList::new(alloc, 2)?;
-    push(&mut list, 7);
-    push(&mut list, 8);
-    if let [first, ..] = list.as_mut_slice() {
-        *first = 9;
-    }
-    Ok(list)
-}
-
 // Whether a list with room for two holds these.
-fn holds(list: &FixedList<u32>, items: &[u32]) -> bool {
+fn holds(list: &Samples, items: &[i32]) -> bool {
     list.as_slice() == items
         && list.is_full() == (items.len() == 2)
         && (list.len(), list.room()) == (items.len(), 2)
 }
 
-// The list again, of its items.
-fn rebuilt(list: FixedList<u32>) -> Option<FixedList<u32>> {
-    let items = list.into_vec();
-    if items.len() > 2 {
-        return None;
+// Whether 7 and 8 are put in, of which the first becomes 9, and the second is taken out again.
+fn is_filled(list: &mut Samples) -> bool {
+    for item in [7, 8] {
+        if list.is_full() {
+            return false;
+        }
+        list.push(item);
     }
-    Some(FixedList::from_vec(items))
+    if let [first, ..] = list.as_mut_slice() {
+        *first = 9;
+    }
+    holds(list, &[9, 8]) && !list.is_empty() && list.pop() == 8 && holds(list, &[9])
 }
 
-fn is_right(alloc: Global) -> Result<bool, NoMemory> {
-    let mut list = filled(alloc)?;
-    let full = holds(&list, &[9, 8]);
-    let popped = pop(&mut list);
-    let rest = holds(&list, &[9]);
-    match rebuilt(list) {
-        Some(again) => Ok(full && popped == Some(8) && rest && holds(&again, &[9])),
-        None => Ok(false),
+/// Whether a list fills to its room, and gives its items back, of which it is made again.
+pub(super) fn is_right(alloc: Global) -> bool {
+    match Samples::new(alloc, 2) {
+        Ok(mut list) => {
+            let filled = is_filled(&mut list);
+            let items = list.into_vec();
+            filled && items.len() <= 2 && holds(&Samples::from_vec(items), &[9])
+        }
+        Err(_) => false,
     }
-}
-
-#[test]
-fn a_list_fills_to_its_room_and_gives_its_items_back(rt: HostRuntime) {
-    assert_eq!(rt; is_right(rt.alloc()), Ok(true));
 }

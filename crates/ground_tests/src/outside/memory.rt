@@ -1,19 +1,15 @@
 //! The objects in memory, with ample memory and with their faults.
-use super::{Call, first_wrong};
+use super::{Call, does_all, put};
 use ses_io::{Failed, MemMedia, MemSink, MemSource, NoMemory, Sink, read_full, write_all};
 use std::alloc::Global;
-
-fn read(source: &mut MemSource, buf: &mut [u8; 2]) -> Result<usize, Failed> {
-    read_full(source, buf)
-}
 
 // Whether the second of four reads of two bytes fails, and loses nothing; what the buffer holds after each.
 fn are_read(source: &mut MemSource) -> bool {
     let mut buf = [0, 0];
-    let first = (read(source, &mut buf), buf);
-    let failed = (read(source, &mut buf), buf);
-    let second = (read(source, &mut buf), buf);
-    let last = (read(source, &mut buf), buf);
+    let first = (read_full(source, &mut buf), buf);
+    let failed = (read_full(source, &mut buf), buf);
+    let second = (read_full(source, &mut buf), buf);
+    let last = (read_full(source, &mut buf), buf);
     [first, failed, second, last]
         == [
             (Ok(2), [1, 2]),
@@ -23,63 +19,56 @@ fn are_read(source: &mut MemSource) -> bool {
         ]
 }
 
-fn source(alloc: Global) -> Result<MemSource, NoMemory> {
-    let bytes = vec![in alloc; 1u8, 2, 3, 4, 5]?;
-    Ok(MemSource::new(bytes, vec![in alloc; 2u64]?))
-}
-
 fn reads_are_right(alloc: Global) -> Result<bool, NoMemory> {
-    let mut source = source(alloc)?;
-    Ok(are_read(&mut source))
+    let bytes = vec![in alloc; 1u8, 2, 3, 4, 5]?;
+    let fails = vec![in alloc; 2u64]?;
+    Ok(are_read(&mut MemSource::new(bytes, fails)))
 }
 
-fn write(sink: &mut MemSink, bytes: &[u8]) -> Result<(), Failed> {
-    write_all(sink, bytes)
-}
-
+// Whether the second of four writes fails, and adds nothing.
 fn are_written(sink: &mut MemSink) -> bool {
-    write(sink, b"ab") == Ok(())
-        && write(sink, b"cd") == Err(Failed)
-        && write(sink, b"ef") == Ok(())
+    write_all(sink, b"ab") == Ok(())
+        && write_all(sink, b"cd") == Err(Failed)
+        && write_all(sink, b"ef") == Ok(())
         && sink.write(b"") == Ok(0)
         && sink.bytes() == b"abef".as_slice()
 }
 
-fn sink(alloc: Global) -> Result<MemSink, NoMemory> {
-    Ok(MemSink::new(alloc, vec![in alloc; 2u64]?))
-}
-
 fn writes_are_right(alloc: Global) -> Result<bool, NoMemory> {
-    let mut sink = sink(alloc)?;
-    Ok(are_written(&mut sink))
+    let fails = vec![in alloc; 2u64]?;
+    Ok(are_written(&mut MemSink::new(alloc, fails)))
 }
 
 #[test]
-fn a_listed_call_fails_and_loses_or_adds_nothing(rt: HostRuntime) {
-    let right = (reads_are_right(rt.alloc()), writes_are_right(rt.alloc()));
-    assert!(rt; right == (Ok(true), Ok(true)));
+fn objects_in_memory_keep_what_they_have(rt: HostRuntime) {
+    assert!(rt; reads_are_right(rt.alloc()) == Ok(true));
+    assert!(rt; writes_are_right(rt.alloc()) == Ok(true));
+    assert!(rt; super::lists::is_right(rt.alloc()));
 }
 
-/// A media in memory: from which places reads and writes of a file fail, and which call.
+/// What fails of a media in memory: reads or writes of a file from a place on, or the call of a number.
+enum Fault {
+    Reads(&'static str, u64),
+    Writes(&'static str, u64),
+    Call(u64),
+}
+
+/// A media whose `a.wav` holds the numbers up to 60: what fails of it, and calls.
 struct Case {
-    reads: &'static [(&'static str, u64)],
-    writes: &'static [(&'static str, u64)],
-    calls: &'static [u64],
+    faults: &'static [Fault],
     answers: &'static [Call],
 }
 
-const CASES: [Case; 4] = [
+const CASES: &[Case] = &[
     Case {
-        reads: &[],
-        writes: &[],
-        calls: &[],
+        faults: &[],
         answers: &[
-            Call::Two("a.wav", 0, Ok((2, 0))),
-            Call::Two("a.wav", 58, Ok((2, 58))),
-            Call::Two("a.wav", 59, Ok((1, 59))),
-            Call::Two("a.wav", 60, Ok((0, 0))),
-            Call::Two("a.wav", 1 << 40, Ok((0, 0))),
-            Call::Two("b.wav", 0, Ok((0, 0))),
+            Call::Read("a.wav", 0, 2, Ok((2, [0, 1, b'.', b'.']))),
+            Call::Read("a.wav", 58, 2, Ok((2, [58, 59, b'.', b'.']))),
+            Call::Read("a.wav", 59, 2, Ok((1, [59, b'.', b'.', b'.']))),
+            Call::Read("a.wav", 60, 2, Ok((0, *b"...."))),
+            Call::Read("a.wav", 1 << 40, 2, Ok((0, *b"...."))),
+            Call::Read("b.wav", 0, 2, Ok((0, *b"...."))),
             Call::Any("", Ok(true)),
             Call::Any("a", Ok(true)),
             Call::Any("a.wav", Ok(true)),
@@ -93,20 +82,16 @@ const CASES: [Case; 4] = [
         ],
     },
     Case {
-        reads: &[("a.wav", 44), ("", 50)],
-        writes: &[],
-        calls: &[],
+        faults: &[Fault::Reads("a.wav", 44), Fault::Reads("", 50)],
         answers: &[
-            Call::Two("a.wav", 43, Ok((2, 43))),
-            Call::Two("a.wav", 44, Err(Failed)),
-            Call::Two("b.wav", 44, Ok((0, 0))),
-            Call::Two("b.wav", 50, Err(Failed)),
+            Call::Read("a.wav", 43, 2, Ok((2, [43, 44, b'.', b'.']))),
+            Call::Read("a.wav", 44, 2, Err(Failed)),
+            Call::Read("b.wav", 44, 2, Ok((0, *b"...."))),
+            Call::Read("b.wav", 50, 2, Err(Failed)),
         ],
     },
     Case {
-        reads: &[],
-        writes: &[("a.wav", 62), ("c.wav", 0)],
-        calls: &[],
+        faults: &[Fault::Writes("a.wav", 62), Fault::Writes("c.wav", 0)],
         answers: &[
             Call::Append("a.wav", &[1, 2], Ok(2)),
             Call::Append("a.wav", &[1, 2], Err(Failed)),
@@ -116,9 +101,7 @@ const CASES: [Case; 4] = [
         ],
     },
     Case {
-        reads: &[],
-        writes: &[],
-        calls: &[3],
+        faults: &[Fault::Call(3)],
         answers: &[
             Call::Append("a.wav", &[1, 2], Ok(2)),
             Call::Append("a.wav", &[1, 2], Ok(2)),
@@ -128,45 +111,37 @@ const CASES: [Case; 4] = [
     },
 ];
 
-// The numbers up to 60.
-fn sixty(alloc: Global) -> Result<Vec<u8>, NoMemory> {
-    let mut bytes = Vec::new(alloc);
-    for n in 0..60u8 {
-        bytes.push(n)?;
+const SIXTY: [u8; 60] = [
+    0, 1, 2, 3, 4, 5, 6, 7, 8, 9, 10, 11, 12, 13, 14, 15, 16, 17, 18, 19, 20, 21, 22, 23, 24, 25,
+    26, 27, 28, 29, 30, 31, 32, 33, 34, 35, 36, 37, 38, 39, 40, 41, 42, 43, 44, 45, 46, 47, 48, 49,
+    50, 51, 52, 53, 54, 55, 56, 57, 58, 59,
+];
+
+fn are_planned(media: &mut MemMedia, faults: &[Fault]) -> bool {
+    for fault in faults {
+        let planned = match fault {
+            Fault::Reads(name, from) => media.fail_reads(name, *from),
+            Fault::Writes(name, from) => media.fail_writes(name, *from),
+            Fault::Call(n) => media.fail_call(*n),
+        };
+        if planned.is_err() {
+            return false;
+        }
     }
-    Ok(bytes)
+    true
 }
 
-// A media whose `a.wav` holds them.
-fn make_media(alloc: Global) -> Result<MemMedia, NoMemory> {
+// Whether all calls are answered as the case says.
+fn is_right(alloc: Global, case: &Case) -> bool {
     let mut media = MemMedia::new(alloc);
-    media.put("a.wav", sixty(alloc)?)?;
-    Ok(media)
-}
-
-fn plan(media: &mut MemMedia, case: &Case) -> Result<(), NoMemory> {
-    for (name, from) in case.reads {
-        media.fail_reads(name, *from)?;
-    }
-    for (name, from) in case.writes {
-        media.fail_writes(name, *from)?;
-    }
-    for n in case.calls {
-        media.fail_call(*n)?;
-    }
-    Ok(())
-}
-
-// The number of the first call, from 0, that wasn't answered as the case says.
-fn wrong_call(alloc: Global, case: &Case) -> Result<Option<usize>, NoMemory> {
-    let mut media = make_media(alloc)?;
-    plan(&mut media, case)?;
-    Ok(first_wrong(&mut media, case.answers))
+    put(alloc, &mut media, "a.wav", &[&SIXTY])
+        && are_planned(&mut media, case.faults)
+        && does_all(&mut media, case.answers)
 }
 
 #[test]
 fn a_media_in_memory_answers_and_fails_as_planned(rt: HostRuntime) {
-    for case in &CASES {
-        assert_eq!(rt; wrong_call(rt.alloc(), case), Ok(None));
+    for case in CASES {
+        assert!(rt; is_right(rt.alloc(), case));
     }
 }

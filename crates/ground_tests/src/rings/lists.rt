@@ -1,27 +1,51 @@
 //! Lists of ends, through which a ring is found by its number.
-ghost use Rattle.std.specs.Prelude.{◌≡◌, ◌<◌, length};
+ghost use Rattle.std.specs.Prelude.{◌≡◌, []};
 
-use super::{Tag, boxed, new_ring};
-use disk_ring::{RingInList, RingOutList};
-use std::test::Fail;
+use super::{boxed, new_ring};
+use disk_ring::{Nothing, RingIn, RingInList, RingOut, RingOutList};
+use piece_item::Ack;
+use ses_io::NoMemory;
+use std::alloc::Global;
 
-#[test]
-fn a_list_of_ends_lends_each(rt: HostRuntime) -> Result<(), Fail> {
-    let alloc = rt.alloc();
-    let mut sends: RingInList<Tag> = RingInList::new(alloc, 2)?;
-    let mut takes: RingOutList<Tag> = RingOutList::new(alloc, 2)?;
-    let (to, from) = new_ring(alloc, 1)?;
-    sends.push(to);
-    takes.push(from);
-    let (to, from) = new_ring(alloc, 2)?;
-    sends.push(to);
-    takes.push(from);
+// Whether the second ring ends, when it is closed by the list of one end and found by the list of the other.
+fn second_is_closed(
+    sends: &mut RingInList<Ack>,
+    takes: &mut RingOutList<Ack>,
+    first: (RingIn<Ack>, RingOut<Ack>),
+    second: (RingIn<Ack>, RingOut<Ack>),
+    husk: Box<Ack>,
+) -> bool
+    requires sends { (sends.old.items ≡ []) × (sends.old.room ≡ 2) }
+    requires takes { (takes.old.items ≡ []) × (takes.old.room ≡ 2) }
+    requires room { second.1.room ≡ 0 }
+{
+    sends.push(first.0);
+    takes.push(first.1);
+    sends.push(second.0);
+    takes.push(second.1);
     sends.as_mut_slice()[1].close();
-    assert_eq!(rt; sends.as_slice().len(), 2);
     let mut from = takes.pop();
-    let Err(found) = from.take(boxed(alloc, 7)?) else {
-        panic!(rt; "nothing was sent")
-    };
-    assert!(rt; matches!(found, disk_ring::Nothing::Closed { tail: 0, .. }));
-    Ok(())
+    let closed = matches!(from.take(husk), Err(Nothing::Closed { tail: 0, .. }));
+    closed && sends.as_slice().len() == 2
+}
+
+fn is_closed_in_lists(
+    alloc: Global,
+    sends: &mut RingInList<Ack>,
+    takes: &mut RingOutList<Ack>,
+) -> Result<bool, NoMemory>
+    requires sends { (sends.old.items ≡ []) × (sends.old.room ≡ 2) }
+    requires takes { (takes.old.items ≡ []) × (takes.old.room ≡ 2) }
+{
+    let husk = boxed(alloc, 7)?;
+    let first = new_ring(alloc, 1)?;
+    let second = new_ring(alloc, 2)?;
+    Ok(second_is_closed(sends, takes, first, second, husk))
+}
+
+/// Whether a list of ends lends each.
+pub(super) fn second_is_found(alloc: Global) -> Result<bool, NoMemory> {
+    let mut sends = RingInList::new(alloc, 2)?;
+    let mut takes = RingOutList::new(alloc, 2)?;
+    is_closed_in_lists(alloc, &mut sends, &mut takes)
 }

@@ -9,7 +9,8 @@ use session_walk::{RouteText, SendText, TrackOwn};
 
 // The first track that a send leads to.
 fn sent_track(tracks: &[TrackOwn], sends: &[SendText]) -> Option<Name>
-    ensures { result ≡ option_map (λ l. l.to) (find (λ l. spec.is_track tracks.now l.to) sends.now) }
+    ensures { result ≡ option_map (λ l. l.to)
+        (find (λ l. spec.is_track tracks.now l.to) sends.now) }
 {
     let send = sends.iter().find(|send| is_track(tracks, send.to))?;
     Some(send.to)

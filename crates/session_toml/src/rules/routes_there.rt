@@ -9,7 +9,8 @@ use session_walk::{RouteText, SendText};
 
 // The first name that a send leads to and that isn't there.
 fn lost_send(routes: &[RouteText], sends: &[SendText]) -> Option<Name>
-    ensures { result ≡ option_map (λ l. l.to) (find (λ l. not (spec.has_route routes.now l.to)) sends.now) }
+    ensures { result ≡ option_map (λ l. l.to)
+        (find (λ l. not (spec.has_route routes.now l.to)) sends.now) }
 {
     let send = sends.iter().find(|send| !has_route(routes, send.to))?;
     Some(send.to)

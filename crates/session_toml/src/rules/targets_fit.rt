@@ -19,7 +19,8 @@ fn narrow_send(routes: &[RouteText], master: u16, sends: &[SendText]) -> Option<
 
 // The first route of one channel that the route leads to, by its output, then its sends.
 fn narrow_target(routes: &[RouteText], master: u16, route: &RouteText) -> Option<Name>
-    ensures { result ≡ spec.first_target (λ name. spec.route_channels routes.now master name == 1) route.now }
+    ensures { result ≡ spec.first_target (λ name. spec.route_channels routes.now master name == 1)
+        route.now }
 {
     if route_channels(routes, master, route.strip.out) == 1 {
         return Some(route.strip.out);

@@ -1,0 +1,117 @@
+//! What several subjects stand on: media in memory, sessions that open, and edits that may follow.
+ghost use Rattle.std.specs.Prelude.{◌≡◌, ◌<◌, length, IfSome};
+ghost use mathlib.Core.List.{IsPrefix};
+ghost use Rattle.session_model.specs.declared.session.Session.{Session as Opening};
+ghost use Rattle.edition_log.specs.EditionState.{IsEditionOf};
+ghost use Rattle.session_opening.specs.Answers.{IsLoaded};
+ghost use Rattle.engine_tests.specs.Bench.{IsOpening};
+
+pub(crate) mod rings;
+
+use edition_log::{Edition, Refusal};
+use ses_io::{MemMedia, NoMemory};
+use session_model::{Edit, Key, Part, Place, SessionRefusal};
+use session_opening::{Export, Loaded, open};
+use std::alloc::Global;
+use std::process::Abort;
+
+/// A file of a media: its name, and its bytes in parts.
+pub(crate) struct File {
+    pub(crate) name: &'static str,
+    pub(crate) parts: &'static [&'static [u8]],
+}
+
+const EXPORT: Export<'static> = Export {
+    session: "s.toml",
+    from: 0,
+    cycles: 2,
+};
+
+fn joined(alloc: Global, parts: &[&[u8]]) -> Result<Vec<u8>, NoMemory> {
+    let mut whole = Vec::new(alloc);
+    for part in parts {
+        whole.extend_from_slice(part)?;
+    }
+    Ok(whole)
+}
+
+/// A media of these files.
+pub(crate) fn media_of(alloc: Global, files: &[File]) -> Result<MemMedia, NoMemory> {
+    let mut media = MemMedia::new(alloc);
+    for file in files {
+        media.put(file.name, joined(alloc, file.parts)?)?;
+    }
+    Ok(media)
+}
+
+/// The same, whose reads fail of these files from these places on.
+pub(crate) fn failing_media(
+    alloc: Global,
+    files: &[File],
+    bad_reads: &[(&'static str, u64)],
+) -> Result<MemMedia, NoMemory> {
+    let mut media = media_of(alloc, files)?;
+    for (name, from) in bad_reads {
+        media.fail_reads(name, *from)?;
+    }
+    Ok(media)
+}
+
+/// A block of no frames is out of range.
+pub(crate) fn block_range() -> SessionRefusal {
+    let place = Place {
+        part: Part::Session,
+        row: 1,
+        item: 0,
+    };
+    SessionRefusal::Range(place, Key::Block)
+}
+
+/// A row of a table holds.
+pub(crate) fn row_holds<R: Abort>(rt: &R, at: usize, right: bool) {
+    assert!(rt; right, "row {at}");
+}
+
+/// What the session `s.toml` opens to, where it has so many tracks.
+pub(crate) fn loaded(alloc: Global, media: &mut MemMedia, tracks: usize) -> Option<Loaded>
+    ensures loaded { IfSome result IsLoaded }
+    ensures tracks { IfSome result (λ o. length o.edition.session.tracks.items ≡ tracks) }
+    ensures depth { IfSome result (λ o. 0 < o.edition.session.depth) }
+{
+    let Ok(loaded) = open(alloc, media, &EXPORT) else {
+        return None;
+    };
+    let session = loaded.edition.session();
+    if session.tracks.len() != tracks || session.depth == 0 {
+        return None;
+    }
+    Some(loaded)
+}
+
+/// Edition 0 of that session.
+pub(crate) fn opening(alloc: Global, files: &[File], tracks: usize) -> Option<Edition>
+    ensures opening { IfSome result IsOpening }
+    ensures tracks { IfSome result (λ e. length e.session.tracks.items ≡ tracks) }
+{
+    let Ok(mut media) = media_of(alloc, files) else {
+        return None;
+    };
+    let Loaded {
+        edition,
+        sources: _,
+    } = loaded(alloc, &mut media, tracks)?;
+    Some(edition)
+}
+
+/// Takes an edit in, where one may follow.
+pub(crate) fn carry_out(e: &mut Edition, edit: Edit) -> Option<Result<u32, Refusal>>
+    ensures stays { (s : Opening) → IsEditionOf s e.old → IsEditionOf s e.new }
+    ensures more { IsPrefix e.old.edits e.new.edits }
+{
+    match edit {
+        Edit::Roll | Edit::Locate { .. } if !e.ended() && !e.transport().quit => {
+            Some(e.apply(&edit))
+        }
+        _ => None,
+    }
+}

@@ -1,0 +1,197 @@
+//! Exports that are played.
+use super::row::{
+    A, BASE, DATA, EXPORT, Ends, FORM, FORMAT, HEAD, PARTS, REGION, RIFF, Row, SOUND, SOURCE,
+};
+use crate::bench::File;
+use cycle_journal::{Note, Play, State, Take};
+
+const HEARD: Note = Note {
+    play: Play::Heard(0),
+    take: Take::Off,
+};
+
+const SILENT: Note = Note {
+    play: Play::Silent,
+    take: Take::Off,
+};
+
+const FIRST: State = State::Rolling {
+    generation: 1,
+    seq: 0,
+};
+
+const ROLLS: &[State] = &[
+    FIRST,
+    State::Rolling {
+        generation: 1,
+        seq: 1,
+    },
+];
+
+pub(crate) const PLAYED: &[Row] = &[
+    // the base session
+    Row {
+        words: EXPORT,
+        files: &[BASE, A],
+        bad_reads: &[],
+        bad_writes: &[],
+        ends: Ends::Done,
+        number: 0,
+        master: SOURCE,
+        states: ROLLS,
+        notes: &[HEARD],
+    },
+    // a region inside is heard from its start: 300 to 600 from the third frame on
+    Row {
+        words: EXPORT,
+        files: &[
+            File {
+                name: "s.toml",
+                parts: &[
+                    HEAD,
+                    FORM,
+                    PARTS,
+                    b"[[track.region]]\nid = 1\nsource = \"a\"\nstart = 2\nlength = 4\nat = 2\n",
+                ],
+            },
+            A,
+        ],
+        bad_reads: &[],
+        bad_writes: &[],
+        ends: Ends::Done,
+        number: 0,
+        master: &[
+            RIFF,
+            FORMAT,
+            DATA,
+            &[0, 0, 0, 0, 0x2c, 1, 0x90, 1, 0xf4, 1, 0x58, 2, 0, 0, 0, 0],
+        ],
+        states: ROLLS,
+        notes: &[HEARD],
+    },
+    // from six on 700 and 800, and then silence
+    Row {
+        words: &["export", "--", "s.toml", "6", "2"],
+        files: &[BASE, A],
+        bad_reads: &[],
+        bad_writes: &[],
+        ends: Ends::Done,
+        number: 0,
+        master: &[
+            RIFF,
+            FORMAT,
+            DATA,
+            &[0xbc, 2, 0x20, 3, 0, 0, 0, 0, 0, 0, 0, 0, 0, 0, 0, 0],
+        ],
+        states: ROLLS,
+        notes: &[HEARD],
+    },
+    // a session of no track is silent: 52 bytes
+    Row {
+        words: &["export", "s.toml", "0", "1"],
+        files: &[File {
+            name: "s.toml",
+            parts: &[HEAD, FORM],
+        }],
+        bad_reads: &[],
+        bad_writes: &[],
+        ends: Ends::Done,
+        number: 0,
+        master: &[
+            b"RIFF\x2c\0\0\0WAVEfmt \x10\0\0\0",
+            FORMAT,
+            b"data\x08\0\0\0\0\0\0\0\0\0\0\0",
+        ],
+        states: &[FIRST],
+        notes: &[],
+    },
+    // two loud tracks, of 30,000 each, are clipped at 32,767
+    Row {
+        words: EXPORT,
+        files: &[
+            File {
+                name: "s.toml",
+                parts: &[
+                    HEAD,
+                    FORM,
+                    PARTS,
+                    REGION,
+                    b"[[track]]\nname = \"u\"\nchannels = 1\n",
+                    b"[[track.region]]\nid = 2\nsource = \"a\"\nlength = 8\nat = 0\n",
+                ],
+            },
+            File {
+                name: "a.wav",
+                parts: &[
+                    RIFF,
+                    FORMAT,
+                    DATA,
+                    &[
+                        0x30, 0x75, 0x30, 0x75, 0x30, 0x75, 0x30, 0x75, 0x30, 0x75, 0x30, 0x75,
+                        0x30, 0x75, 0x30, 0x75,
+                    ],
+                ],
+            },
+        ],
+        bad_reads: &[],
+        bad_writes: &[],
+        ends: Ends::Done,
+        number: 0,
+        master: &[
+            RIFF,
+            FORMAT,
+            DATA,
+            &[
+                0xff, 0x7f, 0xff, 0x7f, 0xff, 0x7f, 0xff, 0x7f, 0xff, 0x7f, 0xff, 0x7f, 0xff, 0x7f,
+                0xff, 0x7f,
+            ],
+        ],
+        states: ROLLS,
+        notes: &[HEARD, HEARD],
+    },
+    // an odd chunk before the sound is passed
+    Row {
+        words: EXPORT,
+        files: &[
+            BASE,
+            File {
+                name: "a.wav",
+                parts: &[RIFF, FORMAT, b"LIST\x03\0\0\0abc\0", DATA, SOUND],
+            },
+        ],
+        bad_reads: &[],
+        bad_writes: &[],
+        ends: Ends::Done,
+        number: 0,
+        master: SOURCE,
+        states: ROLLS,
+        notes: &[HEARD],
+    },
+    // a sound that fails to be read is never rolled
+    Row {
+        words: EXPORT,
+        files: &[BASE, A],
+        bad_reads: &[("a.wav", 44)],
+        bad_writes: &[],
+        ends: Ends::ReadFault,
+        number: 4,
+        master: &[RIFF, FORMAT, DATA, &[0; 16]],
+        states: &[
+            State::Seeking { track: 0, tail: 1 },
+            State::Seeking { track: 0, tail: 1 },
+        ],
+        notes: &[SILENT],
+    },
+    // a third write that fails leaves the front
+    Row {
+        words: EXPORT,
+        files: &[BASE, A],
+        bad_reads: &[],
+        bad_writes: &[3],
+        ends: Ends::MasterFault,
+        number: 7,
+        master: &[RIFF, FORMAT, DATA, &[0x64, 0, 0xc8, 0, 0x2c, 1, 0x90, 1]],
+        states: &[FIRST],
+        notes: &[HEARD],
+    },
+];

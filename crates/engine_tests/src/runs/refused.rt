@@ -1,0 +1,132 @@
+//! Exports that play nothing.
+use super::row::{A, BASE, DATA, EXPORT, Ends, FORMAT, HEAD, PARTS, REGION, RIFF, Row, SOUND};
+use crate::bench::File;
+use session_run::FileRefusal;
+use wav_codec::WavRefusal;
+
+pub(crate) const REFUSED: &[Row] = &[
+    // two words are no command
+    Row {
+        words: &["export", "s.toml"],
+        files: &[BASE, A],
+        bad_reads: &[],
+        bad_writes: &[],
+        ends: Ends::Usage,
+        number: 1,
+        master: &[],
+        states: &[],
+        notes: &[],
+    },
+    // a session of 24 bits
+    Row {
+        words: EXPORT,
+        files: &[File {
+            name: "s.toml",
+            parts: &[HEAD, b"block = 4\nbits = 24\n", PARTS, REGION],
+        }],
+        bad_reads: &[],
+        bad_writes: &[],
+        ends: Ends::NotBuilt,
+        number: 20,
+        master: &[],
+        states: &[],
+        notes: &[],
+    },
+    // an absent session
+    Row {
+        words: EXPORT,
+        files: &[],
+        bad_reads: &[],
+        bad_writes: &[],
+        ends: Ends::Absent,
+        number: 2,
+        master: &[],
+        states: &[],
+        notes: &[],
+    },
+    // a block of no frames
+    Row {
+        words: EXPORT,
+        files: &[File {
+            name: "s.toml",
+            parts: &[HEAD, b"block = 0\nbits = 16\n", PARTS, REGION],
+        }],
+        bad_reads: &[],
+        bad_writes: &[],
+        ends: Ends::BlockRange,
+        number: 2,
+        master: &[],
+        states: &[],
+        notes: &[],
+    },
+    // an absent source
+    Row {
+        words: EXPORT,
+        files: &[BASE],
+        bad_reads: &[],
+        bad_writes: &[],
+        ends: Ends::Source(FileRefusal::Absent),
+        number: 3,
+        master: &[],
+        states: &[],
+        notes: &[],
+    },
+    // a source cut short, with its counts
+    Row {
+        words: EXPORT,
+        files: &[
+            BASE,
+            File {
+                name: "a.wav",
+                parts: &[
+                    RIFF,
+                    FORMAT,
+                    DATA,
+                    &[0x64, 0, 0xc8, 0, 0x2c, 1, 0x90, 1, 0xf4, 1],
+                ],
+            },
+        ],
+        bad_reads: &[],
+        bad_writes: &[],
+        ends: Ends::Source(FileRefusal::Wav(WavRefusal::Truncated { want: 16, have: 10 })),
+        number: 3,
+        master: &[],
+        states: &[],
+        notes: &[],
+    },
+    // a source of floats, with its tag
+    Row {
+        words: EXPORT,
+        files: &[
+            BASE,
+            File {
+                name: "a.wav",
+                parts: &[
+                    RIFF,
+                    &[3, 0, 1, 0, 0x80, 0xbb, 0, 0, 0, 0x77, 1, 0, 2, 0, 16, 0],
+                    DATA,
+                    SOUND,
+                ],
+            },
+        ],
+        bad_reads: &[],
+        bad_writes: &[],
+        ends: Ends::Source(FileRefusal::Wav(WavRefusal::Format(3))),
+        number: 3,
+        master: &[],
+        states: &[],
+        notes: &[],
+    },
+    // a session that fails to be read
+    Row {
+        words: EXPORT,
+        files: &[BASE, A],
+        bad_reads: &[("s.toml", 0)],
+        bad_writes: &[],
+        ends: Ends::ReadFault,
+        number: 4,
+        master: &[],
+        states: &[],
+        notes: &[],
+    },
+];

@@ -1,0 +1,67 @@
+//! What the rows of runs are made of.
+use crate::bench::File;
+use cycle_journal::{Note, State};
+use session_run::FileRefusal;
+
+pub(crate) enum Ends {
+    Done,
+    Usage,
+    /// The session is absent.
+    Absent,
+    /// Its block is out of range.
+    BlockRange,
+    /// The file of source a is refused.
+    Source(FileRefusal),
+    ReadFault,
+    MasterFault,
+    NotBuilt,
+}
+
+/// What a run is given, and what it leaves: its status with its number, its master, and the states of its cycles, each with
+/// these notes.
+pub(crate) struct Row {
+    pub(crate) words: &'static [&'static str],
+    pub(crate) files: &'static [File],
+    pub(crate) bad_reads: &'static [(&'static str, u64)],
+    pub(crate) bad_writes: &'static [u64],
+    pub(crate) ends: Ends,
+    pub(crate) number: u8,
+    pub(crate) master: &'static [&'static [u8]],
+    pub(crate) states: &'static [State],
+    pub(crate) notes: &'static [Note],
+}
+
+pub(crate) const EXPORT: &[&str] = &["export", "s.toml", "0", "2"];
+
+pub(crate) const HEAD: &[u8] = b"[session]\nversion = 1\nrate = 48000\nchannels = 1\ndepth = 2\n";
+
+pub(crate) const FORM: &[u8] = b"block = 4\nbits = 16\n";
+
+pub(crate) const PARTS: &[u8] =
+    b"[[source]]\nname = \"a\"\nfile = \"a.wav\"\nchannels = 1\n\n[[track]]\nname = \"t\"\nchannels = 1\ninput = 0\n";
+
+pub(crate) const REGION: &[u8] = b"[[track.region]]\nid = 1\nsource = \"a\"\nlength = 8\nat = 0\n";
+
+pub(crate) const BASE: File = File {
+    name: "s.toml",
+    parts: &[HEAD, FORM, PARTS, REGION],
+};
+
+// A mono file of 16 bits and 48,000 frames a second with eight frames 100 to 800: 60 bytes, written by hand after RIFF
+// WAVE.
+pub(crate) const RIFF: &[u8] = b"RIFF\x34\0\0\0WAVEfmt \x10\0\0\0";
+
+pub(crate) const FORMAT: &[u8] = &[1, 0, 1, 0, 0x80, 0xbb, 0, 0, 0, 0x77, 1, 0, 2, 0, 16, 0];
+
+pub(crate) const DATA: &[u8] = b"data\x10\0\0\0";
+
+pub(crate) const SOUND: &[u8] = &[
+    0x64, 0, 0xc8, 0, 0x2c, 1, 0x90, 1, 0xf4, 1, 0x58, 2, 0xbc, 2, 0x20, 3,
+];
+
+pub(crate) const SOURCE: &[&[u8]] = &[RIFF, FORMAT, DATA, SOUND];
+
+pub(crate) const A: File = File {
+    name: "a.wav",
+    parts: SOURCE,
+};

@@ -1,0 +1,143 @@
+//! Files in memory and in a folder, opened and read; each byte of them is written by hand after RIFF WAVE.
+mod depths;
+mod faults;
+mod refused;
+
+use crate::outside::put;
+use audio_source::{OpenRefusal, ReadFault, Sources};
+use ses_io::{FolderMedia, Media, MemMedia};
+use ses_units::Name;
+use session_model::{FileName, SourceDecl, SourceList};
+use std::alloc::Global;
+
+/// The parts of a file `a.wav`, the sources with their channels, the rate, and what has to come of it.
+struct Case {
+    parts: &'static [&'static [u8]],
+    files: &'static [(&'static str, u16)],
+    rate: u32,
+    want: Want,
+}
+
+enum Want {
+    Opened,
+    Refused(OpenRefusal),
+    /// Six samples of the first source from a frame on.
+    Heard(u64, [i32; 6]),
+}
+
+fn push(alloc: Global, list: &mut SourceList, file: &str, channels: u16) -> bool {
+    match (Name::new("a"), FileName::new(alloc, file)) {
+        (Ok(name), Ok(file)) if !list.is_full() => {
+            list.push(SourceDecl {
+                name,
+                file,
+                channels,
+            });
+            true
+        }
+        _ => false,
+    }
+}
+
+/// Sources of these files, each with its channels.
+pub(crate) fn list(alloc: Global, files: &[(&str, u16)]) -> Option<SourceList> {
+    let mut list = SourceList::new(alloc, 3).ok()?;
+    for (file, channels) in files {
+        if !push(alloc, &mut list, file, *channels) {
+            return None;
+        }
+    }
+    Some(list)
+}
+
+/// The opened sources of these files.
+fn open<M: Media>(
+    alloc: Global,
+    media: &mut M,
+    files: &[(&str, u16)],
+    rate: u32,
+) -> Result<Sources, OpenRefusal> {
+    match list(alloc, files) {
+        Some(list) => Sources::new(alloc, media, &list, rate),
+        None => Err(OpenRefusal::NoMemory),
+    }
+}
+
+/// Reads frames of a source, where it is there and `out` holds whole frames of it.
+fn read<M: Media>(
+    sources: &mut Sources,
+    media: &mut M,
+    source: u32,
+    from: u64,
+    out: &mut [i32],
+) -> Option<Result<(), ReadFault>> {
+    let channels = sources.channels(source)?;
+    if channels == 0 || !out.len().is_multiple_of(channels as usize) {
+        return None;
+    }
+    Some(sources.frames(media, source, from, out))
+}
+
+/// Whether the samples from a frame on are these, at most six.
+fn is_heard<M: Media>(
+    sources: &mut Sources,
+    media: &mut M,
+    source: u32,
+    from: u64,
+    samples: &[i32],
+) -> bool {
+    let mut six = [7; 6];
+    let out = &mut six[..samples.len().min(6)];
+    read(sources, media, source, from, out) == Some(Ok(())) && *out == *samples
+}
+
+// Two frames of two channels and 8 bits.
+const TWO_FRAMES: &[u8] = b"RIFF\x3e\0\0\0WAVEJUNK\x03\0\0\0\x01\x02\x03\0\
+    fmt \x10\0\0\0\x01\0\x02\0\x80\xbb\0\0\0\0\0\0\x02\0\x08\0\
+    data\x04\0\0\0\x81\x82\x83\x84LIST\x02\0\0\0\x07\x07";
+
+/// Whether the last frame, and what follows, is heard of a file that is written into the folder.
+pub(crate) fn is_heard_in_folder(alloc: Global, media: &mut FolderMedia<HostRuntime>) -> bool {
+    if media.append("source.wav", TWO_FRAMES) != Ok(TWO_FRAMES.len()) {
+        return false;
+    }
+    match open(alloc, media, &[("source.wav", 2)], 48_000) {
+        Ok(mut sources) => is_heard(&mut sources, media, 0, 1, &[196_608, 262_144, 0, 0]),
+        Err(_) => false,
+    }
+}
+
+// Whether the case's sources are opened, refused or heard as it says.
+fn is_answered(alloc: Global, media: &mut MemMedia, case: &Case) -> bool {
+    match open(alloc, media, case.files, case.rate) {
+        Ok(mut sources) => match &case.want {
+            Want::Opened => true,
+            Want::Refused(_) => false,
+            Want::Heard(from, samples) => is_heard(&mut sources, media, 0, *from, samples),
+        },
+        Err(told) => match &case.want {
+            Want::Refused(refusal) => told == *refusal,
+            _ => false,
+        },
+    }
+}
+
+fn is_right(alloc: Global, case: &Case) -> bool {
+    let mut media = MemMedia::new(alloc);
+    put(alloc, &mut media, "a.wav", case.parts) && is_answered(alloc, &mut media, case)
+}
+
+fn are_right(alloc: Global, cases: &[Case]) -> bool {
+    for case in cases {
+        if !is_right(alloc, case) {
+            return false;
+        }
+    }
+    true
+}
+
+#[test]
+fn files_are_heard_or_refused_for_their_first_fault(rt: HostRuntime) {
+    assert!(rt; are_right(rt.alloc(), depths::HEARD));
+    assert!(rt; are_right(rt.alloc(), refused::REFUSED));
+}

@@ -1,2 +1,0 @@
--- The session of the tests is valid, and their rings are new.
-mod PairLemmas

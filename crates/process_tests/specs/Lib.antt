@@ -1,2 +1,0 @@
--- The session of the tests, and what is so of a process that plays it.
-pub mod Pair

@@ -1,2 +1,0 @@
--- Lemmas of the tests of sessions.
-mod AloneLemmas

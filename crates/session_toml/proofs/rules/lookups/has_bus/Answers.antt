@@ -1,0 +1,7 @@
+-- Some item has the name where one is found.
+use Rattle.std.proofs.Common.{◌∙◌, bytes_eq}
+use Rattle.session_toml.proofs.LookLaws.{any_found}
+use Rattle.session_toml.proofs.rules.lookups.has_bus.Goals as goal
+
+pub returns : goal.returns
+returns c = c.is_some.ensures ∙ any_found (λ q. bytes_eq q.named.name c.args.name) c.args.routes.now _ c.route_of.ensures
