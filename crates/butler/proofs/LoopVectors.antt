@@ -2,7 +2,7 @@
 use Rattle.std.proofs.Common.{◌≡◌, ◌+◌, ◌*◌, [], ◌∷◌, refl}
 use Rattle.std.specs.Prelude.{pos, nat_lt, true, false, if◌then◌else◌, Some}
 use Rattle.sound_model.specs.Numbers.{unity}
-use Rattle.sound_model.specs.Regions.{Region, Sounds}
+use Rattle.sound_model.specs.Regions.{Region, Sounds, Linear}
 use Rattle.sound_model.specs.Layers.{track_sample}
 use Rattle.session_model.specs.Frames.{interleaved}
 use Rattle.engine_model.specs.Transport.{Transport, place_of}
@@ -13,7 +13,7 @@ six source frame channel = if nat_lt frame 6 then pos ((frame + 1) * 65536) else
 
 -- all of it, from place 4 on
 abbrev region : Region
-region = record { id = 1; source = 0; start = 0; long = 9; at = 4; layer = 0; gain = unity; opaque = true; fade_in = 0; fade_out = 0 }
+region = record { id = 1; source = 0; start = 0; long = 9; at = 4; layer = 0; gain = unity; opaque = true; fade_in = 0; fade_out = 0; shape_in = Linear; shape_out = Linear }
 
 -- places 3 to 5, again and again
 abbrev looped : Transport

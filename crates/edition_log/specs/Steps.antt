@@ -1,7 +1,7 @@
 -- What an edit does to an edition.
 use Rattle.std.specs.Prelude.{◌≡◌, ◌<◌, ◌^◌, ℕ, Bool, true, false, [], ◌∷◌, ◌++◌, Some, None, Result, Ok, Err}
 use Rattle.session_model.specs.declared.edit.Edit.{Edit}
-use Rattle.session_model.specs.declared.edit.Edit.TheVariants.{Roll, Stop, Quit, Recording, Locate, Loop, LoopOff, Arm, Solo, Mute, Gain, Pan, Mode, Point, Unpoint, Connect, Send, Unsend, Add, Remove, Move, Trim, Layer, Opaque, RegionGain, Fade}
+use Rattle.session_model.specs.declared.edit.Edit.TheVariants.{Roll, Stop, Quit, Recording, Locate, Loop, LoopOff, Arm, Solo, Mute, Gain, Pan, Mode, Point, Unpoint, Connect, Send, Unsend, Add, Remove, Move, Trim, Layer, Opaque, RegionGain, Fade, Shape}
 use Rattle.engine_model.specs.Editions.{apply, refusal}
 use Rattle.edition_log.specs.declared.reason.Refusal.{Refusal}
 use Rattle.edition_log.specs.Reason.{refusal_of}
@@ -35,6 +35,7 @@ is_built (Layer track id layer) = false
 is_built (Opaque track id on) = false
 is_built (RegionGain track id gain) = false
 is_built (Fade track id fade_in fade_out) = false
+is_built (Shape track id shape_in shape_out) = false
 
 -- What `apply` leaves: the next state with the edit at the list's end, or the first refusal and nothing changed.
 abbrev pub Applies : EditionState → Edit → Result ℕ Refusal → EditionState → Type 0
@@ -75,3 +76,4 @@ HasNearPlace (Layer track id layer) = Unit {0}
 HasNearPlace (Opaque track id on) = Unit {0}
 HasNearPlace (RegionGain track id gain) = Unit {0}
 HasNearPlace (Fade track id fade_in fade_out) = Unit {0}
+HasNearPlace (Shape track id shape_in shape_out) = Unit {0}

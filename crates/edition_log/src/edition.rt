@@ -123,7 +123,8 @@ impl Edition {
             | Edit::Layer { .. }
             | Edit::Opaque { .. }
             | Edit::RegionGain { .. }
-            | Edit::Fade { .. } => Ok(()),
+            | Edit::Fade { .. }
+            | Edit::Shape { .. } => Ok(()),
         }
     }
 

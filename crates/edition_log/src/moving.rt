@@ -51,6 +51,7 @@ pub(crate) fn moved(t: &Transport, edit: &Edit) -> Transport
         | Edit::Layer { .. }
         | Edit::Opaque { .. }
         | Edit::RegionGain { .. }
-        | Edit::Fade { .. } => *t,
+        | Edit::Fade { .. }
+        | Edit::Shape { .. } => *t,
     }
 }

@@ -2,8 +2,9 @@
 use Rattle.std.proofs.Common.{◌≡◌, ℕ, List, [], ◌∷◌, refl, true, false, codes, map, Some, None, Err}
 use Rattle.std.specs.List.{range_with_len}
 use Rattle.ses_units.specs.declared.mode.Mode.TheVariants.{Play as ByLane}
+use Rattle.ses_units.specs.declared.shape.Shape.TheVariants.{Linear, Slow}
 use Rattle.session_model.specs.declared.edit.Edit.{Edit}
-use Rattle.session_model.specs.declared.edit.Edit.TheVariants.{Roll, Stop, Quit, Recording, Locate, Loop, LoopOff, Arm, Solo, Mute, Gain, Pan, Mode, Point, Unpoint, Connect, Send, Unsend, Add, Remove, Move, Trim, Layer, Opaque, RegionGain, Fade}
+use Rattle.session_model.specs.declared.edit.Edit.TheVariants.{Roll, Stop, Quit, Recording, Locate, Loop, LoopOff, Arm, Solo, Mute, Gain, Pan, Mode, Point, Unpoint, Connect, Send, Unsend, Add, Remove, Move, Trim, Layer, Opaque, RegionGain, Fade, Shape}
 use Rattle.session_model.proofs.SessionVectors.{base}
 use Rattle.engine_model.specs.Edits.{touches, starts, playlist_edition, generation, has_quit}
 use Rattle.engine_model.specs.Transport.{at_rest, place}
@@ -19,11 +20,11 @@ one_of_each : List Edit
 one_of_each = Roll ∷ Stop ∷ Quit ∷ Recording true ∷ Locate 0 ∷ Loop 0 1 ∷ LoopOff ∷ Arm a_name true ∷ Solo a_name true ∷ Mute a_name true
     ∷ Gain a_name 0 ∷ Pan a_name 0 0 ∷ Mode a_name ByLane ∷ Point a_name 0 0 ∷ Unpoint a_name 0 ∷ Connect a_name a_name
     ∷ Send a_name a_name true 0 ∷ Unsend a_name a_name ∷ Add a_name 2 a_name 0 1 0 0 ∷ Remove a_name 1 ∷ Move a_name 1 0 ∷ Trim a_name 1 0 1
-    ∷ Layer a_name 1 0 ∷ Opaque a_name 1 true ∷ RegionGain a_name 1 0 ∷ Fade a_name 1 0 0 ∷ []
+    ∷ Layer a_name 1 0 ∷ Opaque a_name 1 true ∷ RegionGain a_name 1 0 ∷ Fade a_name 1 0 0 ∷ Shape a_name 1 Linear Slow ∷ []
 
 region_commands_touch : map (touches two_tracks 0) one_of_each
     ≡ false ∷ false ∷ false ∷ false ∷ false ∷ false ∷ false ∷ false ∷ false ∷ false ∷ false ∷ false ∷ false ∷ false ∷ false ∷ false ∷ false ∷ false
-    ∷ true ∷ true ∷ true ∷ true ∷ true ∷ true ∷ true ∷ true ∷ []
+    ∷ true ∷ true ∷ true ∷ true ∷ true ∷ true ∷ true ∷ true ∷ true ∷ []
 unfolding a_name one_of_each
 region_commands_touch = refl
 
@@ -33,7 +34,7 @@ of_their_track_alone = refl
 
 locates_and_loops_start : map starts one_of_each
     ≡ false ∷ false ∷ false ∷ false ∷ true ∷ true ∷ true ∷ false ∷ false ∷ false ∷ false ∷ false ∷ false ∷ false ∷ false ∷ false ∷ false ∷ false
-    ∷ false ∷ false ∷ false ∷ false ∷ false ∷ false ∷ false ∷ false ∷ []
+    ∷ false ∷ false ∷ false ∷ false ∷ false ∷ false ∷ false ∷ false ∷ false ∷ []
 unfolding a_name one_of_each
 locates_and_loops_start = refl
 

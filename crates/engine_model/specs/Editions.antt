@@ -82,6 +82,7 @@ why_not e (edit.Layer track id layer) = None
 why_not e (edit.Opaque track id on) = None
 why_not e (edit.RegionGain track id gain) = None
 why_not e (edit.Fade track id fade_in fade_out) = None
+why_not e (edit.Shape track id shape_in shape_out) = None
 
 -- why an edit isn't accepted: no edit is after 10,000
 abbrev pub refusal : Edition → Edit → Option Refusal
@@ -117,6 +118,7 @@ session_after session (edit.Layer track id layer) = session
 session_after session (edit.Opaque track id on) = session
 session_after session (edit.RegionGain track id gain) = session
 session_after session (edit.Fade track id fade_in fade_out) = session
+session_after session (edit.Shape track id shape_in shape_out) = session
 
 abbrev pub changed : Edition → Edit → Edition
 changed e edit = record { session = session_after e.session edit; transport = moved e.transport edit; number = suc e.number }

@@ -5,7 +5,7 @@ use Rattle.std.specs.Option.{option_map_or}
 use Rattle.std.specs.Str.{bytes_eq}
 use Rattle.session_model.specs.declared.session.Session.{Session}
 use Rattle.session_model.specs.declared.edit.Edit.{Edit}
-use Rattle.session_model.specs.declared.edit.Edit.TheVariants.{Roll, Stop, Quit, Recording, Locate, Loop, LoopOff, Arm, Solo, Mute, Gain, Pan, Mode, Point, Unpoint, Connect, Send, Unsend, Add, Remove, Move, Trim, Layer, Opaque, RegionGain, Fade}
+use Rattle.session_model.specs.declared.edit.Edit.TheVariants.{Roll, Stop, Quit, Recording, Locate, Loop, LoopOff, Arm, Solo, Mute, Gain, Pan, Mode, Point, Unpoint, Connect, Send, Unsend, Add, Remove, Move, Trim, Layer, Opaque, RegionGain, Fade, Shape}
 
 -- ---- one edit
 
@@ -37,6 +37,7 @@ region_track (Layer track id layer) = Some track
 region_track (Opaque track id on) = Some track
 region_track (RegionGain track id gain) = Some track
 region_track (Fade track id fade_in fade_out) = Some track
+region_track (Shape track id shape_in shape_out) = Some track
 
 -- the name of a track is the name of its route
 abbrev pub is_named : Session → ℕ → List ℕ → Bool
@@ -74,6 +75,7 @@ starts (Layer track id layer) = false
 starts (Opaque track id on) = false
 starts (RegionGain track id gain) = false
 starts (Fade track id fade_in fade_out) = false
+starts (Shape track id shape_in shape_out) = false
 
 abbrev pub is_quit : Edit → Bool
 is_quit Roll = false
@@ -102,6 +104,7 @@ is_quit (Layer track id layer) = false
 is_quit (Opaque track id on) = false
 is_quit (RegionGain track id gain) = false
 is_quit (Fade track id fade_in fade_out) = false
+is_quit (Shape track id shape_in shape_out) = false
 
 -- ---- the first k edits of a list
 

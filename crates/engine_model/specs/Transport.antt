@@ -1,7 +1,7 @@
 -- The transport: what rolls, from which place, and round which loop (Ardour's manual, transport; generations are own).
 use Rattle.std.specs.Prelude.{ℕ, zero, suc, ◌+◌, ◌-◌, ◌%◌, Bool, true, false, ◌&&◌, nat_lt, nat_le, if◌then◌else◌, List, [], ◌∷◌, Option, Some, None}
 use Rattle.session_model.specs.declared.edit.Edit.{Edit}
-use Rattle.session_model.specs.declared.edit.Edit.TheVariants.{Roll, Stop, Quit, Recording, Locate, Loop, LoopOff, Arm, Solo, Mute, Gain, Pan, Mode, Point, Unpoint, Connect, Send, Unsend, Add, Remove, Move, Trim, Layer, Opaque, RegionGain, Fade}
+use Rattle.session_model.specs.declared.edit.Edit.TheVariants.{Roll, Stop, Quit, Recording, Locate, Loop, LoopOff, Arm, Solo, Mute, Gain, Pan, Mode, Point, Unpoint, Connect, Send, Unsend, Add, Remove, Move, Trim, Layer, Opaque, RegionGain, Fade, Shape}
 use Rattle.engine_model.specs.Edits.{starts}
 
 -- a loop plays the places from one to before another, again and again
@@ -60,6 +60,7 @@ moved c (Layer track id layer) = c
 moved c (Opaque track id on) = c
 moved c (RegionGain track id gain) = c
 moved c (Fade track id fade_in fade_out) = c
+moved c (Shape track id shape_in shape_out) = c
 
 abbrev pub moved_by : Transport → List Edit → Transport
 moved_by c [] = c

@@ -7,7 +7,7 @@ use rows::{Answer, ROWS, Row};
 use ses_io::{MemMedia, NoMemory};
 use ses_units::Name;
 use session_model::SessionRefusal;
-use session_opening::{Export, Loaded, Unopened, command, open};
+use session_opening::{Command, Export, Loaded, Unopened, command, open};
 use std::alloc::Global;
 
 // Whether blocks have four frames, and the first source one channel.
@@ -51,7 +51,7 @@ fn answers(alloc: Global, media: &mut MemMedia, export: &Export<'_>, answer: &An
 }
 
 fn is_right(alloc: Global, row: &Row) -> Result<bool, NoMemory> {
-    let Some(export) = command(&["export", "s.toml", row.from, "2"]) else {
+    let Some(Command::Export(export)) = command(&["export", "s.toml", row.from, "2"]) else {
         return Ok(false);
     };
     let read = export.from == row.position && export.cycles == 2;

@@ -1,16 +1,20 @@
-//! Worked exports over a world in memory.
+//! Worked runs over a world in memory.
+mod extensible;
+mod migrated;
 mod played;
 mod refused;
 mod row;
 
 use crate::bench::{block_range, failing_media, row_holds};
 use cycle_journal::{Entry, Note, State};
+use extensible::EXTENSIBLE;
+use migrated::{MIGRATED, UNBUILT};
 use played::PLAYED;
 use refused::REFUSED;
 use row::{Ends, Row};
 use ses_io::{MemMedia, MemSink, MemSource, NoMemory, World};
 use ses_units::Name;
-use session_model::SessionRefusal;
+use session_model::{Part, Place, SessionRefusal};
 use session_run::{FileRefusal, Outcome, Status, run};
 use std::alloc::Global;
 use std::sync::Wait;
@@ -22,14 +26,15 @@ type Ended = Outcome<MemMedia, MemSource, MemSource, MemSink, MemSink>;
 
 // The world of a row.
 fn given(alloc: Global, row: &Row) -> Result<Memory, NoMemory> {
-    let bad_writes = row.bad_writes.to_vec(alloc)?;
+    let bad_masters = row.bad_writes.to_vec(alloc)?;
+    let bad_outs = row.bad_writes.to_vec(alloc)?;
     let media = failing_media(alloc, row.files, row.bad_reads)?;
     Ok(World {
         media,
         input: MemSource::new(Vec::new(alloc), Vec::new(alloc)),
         control: MemSource::new(Vec::new(alloc), Vec::new(alloc)),
-        master: MemSink::new(alloc, bad_writes),
-        out: MemSink::new(alloc, Vec::new(alloc)),
+        master: MemSink::new(alloc, bad_masters),
+        out: MemSink::new(alloc, bad_outs),
     })
 }
 
@@ -46,9 +51,15 @@ fn status_of(ends: &Ends) -> Status {
         Ends::Usage => Status::Usage,
         Ends::Absent => Status::Session(SessionRefusal::Absent),
         Ends::BlockRange => Status::Session(block_range()),
+        Ends::UnknownInRegion => Status::Session(SessionRefusal::Unknown(Place {
+            part: Part::Region,
+            row: 1,
+            item: 1,
+        })),
         Ends::Source(why) => refused_source(why),
         Ends::ReadFault => Status::ReadFault,
         Ends::MasterFault => Status::MasterFault,
+        Ends::OutFault => Status::OutFault,
         Ends::NotBuilt => Status::NotBuilt,
     }
 }
@@ -114,6 +125,18 @@ where
     Ok(ran(rt, alloc, world, row))
 }
 
+// The same, where the session's file is first written anew by a migrate.
+fn is_right_migrated<R>(rt: &R, alloc: Global, row: &Row) -> Result<bool, NoMemory>
+where
+    R: Threads + Wait + Sync,
+{
+    let world = given(alloc, row)?;
+    let mut world = run(rt, alloc, &["migrate", "s.toml"], world).world;
+    world.media.put("s.toml", world.out.bytes().to_vec(alloc)?)?;
+    world.out = MemSink::new(alloc, Vec::new(alloc));
+    Ok(ran(rt, alloc, world, row))
+}
+
 #[test]
 fn each_export_leaves_what_was_worked_out(rt: HostRuntime) {
     for (at, row) in PLAYED.iter().enumerate() {
@@ -122,8 +145,18 @@ fn each_export_leaves_what_was_worked_out(rt: HostRuntime) {
 }
 
 #[test]
-fn each_refused_export_ends_with_its_status(rt: HostRuntime) {
-    for (at, row) in REFUSED.iter().enumerate() {
+fn each_refused_command_ends_with_its_status(rt: HostRuntime) {
+    for (at, row) in REFUSED.iter().chain(EXTENSIBLE).chain(MIGRATED).enumerate() {
         row_holds(&rt, at, is_right(&rt, rt.alloc(), row) == Ok(true));
+    }
+}
+
+#[test]
+fn each_export_of_a_migrated_session_leaves_the_same(rt: HostRuntime) {
+    for (at, row) in PLAYED.iter().chain(UNBUILT).enumerate() {
+        if row.bad_reads.is_empty() && row.bad_writes.is_empty() {
+            let is_right = is_right_migrated(&rt, rt.alloc(), row);
+            row_holds(&rt, at, is_right == Ok(true));
+        }
     }
 }

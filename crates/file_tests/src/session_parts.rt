@@ -6,7 +6,7 @@ ghost use Rattle.session_model.specs.MemFrames.{channels_in};
 use crate::parts::list;
 use crate::session_texts::is_base;
 use ses_io::{Failed, NoMemory};
-use ses_units::{Bits, Gain, Lane, Mode, Name};
+use ses_units::{Bits, Gain, Lane, Mode, Name, Shape};
 use session_model::{
     FileName, Frames, MemFrames, MemSound, Playlist, Region, Route, RouteKind, RouteList, SendList,
     Session, Track, TrackList,
@@ -30,6 +30,8 @@ fn region(id: u32, layer: u32) -> Region
         opaque: true,
         fade_in: 0,
         fade_out: 0,
+        shape_in: Shape::Linear,
+        shape_out: Shape::Linear,
     }
 }
 

@@ -3,6 +3,7 @@ mod keys;
 mod largest;
 mod read;
 mod several;
+mod written;
 
 pub(crate) use read::is_base;
 use ses_io::NoMemory;

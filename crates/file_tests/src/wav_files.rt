@@ -1,5 +1,6 @@
 //! Worked values: heads that are read and refused, and samples both ways.
 
+mod extensible;
 mod heads;
 mod refusals;
 mod samples;

@@ -1,5 +1,6 @@
 //! Files in memory and in a folder, opened and read; each byte of them is written by hand after RIFF WAVE.
 mod depths;
+mod extensible;
 mod faults;
 mod refused;
 
@@ -139,5 +140,6 @@ fn are_right(alloc: Global, cases: &[Case]) -> bool {
 #[test]
 fn files_are_heard_or_refused_for_their_first_fault(rt: HostRuntime) {
     assert!(rt; are_right(rt.alloc(), depths::HEARD));
+    assert!(rt; are_right(rt.alloc(), extensible::EXTENSIBLE));
     assert!(rt; are_right(rt.alloc(), refused::REFUSED));
 }

@@ -2,6 +2,7 @@
 pub mod Bits
 pub mod Name
 pub mod Mode
+pub mod Shape
 pub mod Point
 pub mod Lane
 pub mod Refusal

@@ -10,6 +10,7 @@ mod name;
 mod number;
 mod point;
 mod refusal;
+mod shape;
 
 pub use bits::Bits;
 pub use gain::{Gain, TooLoud};
@@ -19,3 +20,4 @@ pub use name::{Name, NotName};
 pub use number::{clip, file_sample, scale};
 pub use point::Point;
 pub use refusal::LaneRefusal;
+pub use shape::Shape;

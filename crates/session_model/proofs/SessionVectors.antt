@@ -1,6 +1,7 @@
 -- A small session as a value, which is valid.
 use Rattle.std.proofs.Common.{◌+◌, ◌/◌, ◌%◌, ◌≡◌, ℕ, List, [], ◌∷◌, ◌++◌, refl, true, false, Option, Some, None, codes}
 use Rattle.sound_model.specs.Regions as sound
+use Rattle.sound_model.specs.Regions.{Linear}
 use Rattle.ses_units.specs.declared.bits.Bits.TheVariants.{B16}
 use Rattle.ses_units.specs.declared.mode.Mode.TheVariants.{Manual}
 use Rattle.ses_io.specs.FixedList.{Listed}
@@ -22,7 +23,7 @@ abbrev pub source : List ℕ → SourceDecl
 source name = record { name = name; file = name ++ codes ".wav"; channels = 1 }
 
 abbrev pub whole : sound.Region
-whole = record { id = 1; source = 0; start = 0; long = 8; at = 0; layer = 0; gain = 65536; opaque = true; fade_in = 0; fade_out = 0 }
+whole = record { id = 1; source = 0; start = 0; long = 8; at = 0; layer = 0; gain = 65536; opaque = true; fade_in = 0; fade_out = 0; shape_in = Linear; shape_out = Linear }
 
 abbrev pub send_to : ℕ → SendLink
 send_to to = record { to = to; pre = false; gain = 65536 }

@@ -6,6 +6,7 @@ use Rattle.sound_model.specs.Numbers.{file_sample}
 use Rattle.sound_model.specs.Regions.{Sounds}
 use Rattle.sound_model.specs.Layers.{track_sample}
 use Rattle.sound_model.specs.Routes.{input_within, master_sample}
+use Rattle.ses_units.specs.declared.shape.Shape.TheVariants.{Linear}
 use Rattle.session_model.specs.declared.region.Region.{Region}
 use Rattle.session_model.specs.declared.route.RouteKind.TheVariants.{Track as OfTrack, Bus}
 use Rattle.session_model.specs.declared.session.Session.{Session}
@@ -31,7 +32,7 @@ abbrev two_constants : Sounds
 two_constants = sounds_of (constant (pos 204800) ∷ constant (pos 102400) ∷ [])
 
 abbrev plain : Region
-plain = record { id = 2; source = 0; start = 0; length = 8; at = 0; layer = 0; gain = 65536; opaque = true; fade_in = 0; fade_out = 0 }
+plain = record { id = 2; source = 0; start = 0; length = 8; at = 0; layer = 0; gain = 65536; opaque = true; fade_in = 0; fade_out = 0; shape_in = Linear; shape_out = Linear }
 
 -- a region of source 1 on layer 1 over one of source 0
 abbrev two_layers : Bool → ℕ → Session

@@ -1,6 +1,7 @@
 -- A region as the definitions of the sound have it, and the limits that it keeps (own).
 use Rattle.std.specs.Prelude.{◌+◌, ◌^◌, ◌<◌, ◌≤◌, List, map}
 use Rattle.sound_model.specs.Regions as sound
+use Rattle.ses_units.specs.Shape.{shape_of}
 use Rattle.session_model.specs.declared.region.Region.{Region}
 
 abbrev pub region_of : Region → sound.Region
@@ -15,6 +16,8 @@ region_of r = record {
   opaque = r.opaque;
   fade_in = r.fade_in;
   fade_out = r.fade_out;
+  shape_in = shape_of r.shape_in;
+  shape_out = shape_of r.shape_out;
 }
 
 abbrev pub regions_of : List Region → List sound.Region

@@ -1,5 +1,5 @@
 //! An edit: one variant for each control command that changes the session or its transport.
-use ses_units::{Mode, Name};
+use ses_units::{Mode, Name, Shape};
 
 /// A change that a control line asks for. Routes, tracks and sources go by their names, gains are
 /// in 65,536ths, and places and lengths are in frames; an edit may ask for what is refused.
@@ -137,5 +137,12 @@ pub enum Edit {
         id: u32,
         fade_in: u64,
         fade_out: u64,
+    },
+    /// The shapes of a region's fades are set.
+    Shape {
+        track: Name,
+        id: u32,
+        shape_in: Shape,
+        shape_out: Shape,
     },
 }

@@ -71,6 +71,10 @@ pub enum Key {
     FadeIn,
     /// `fade_out`
     FadeOut,
+    /// `shape_in`, a key of version 2.
+    ShapeIn,
+    /// `shape_out`, a key of version 2.
+    ShapeOut,
     /// `bus`
     Bus,
     /// `master`

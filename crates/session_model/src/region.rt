@@ -1,5 +1,5 @@
 //! A region: a part of a source, placed on a track's timeline (Ardour's manual).
-use ses_units::Gain;
+use ses_units::{Gain, Shape};
 
 /// A part of a source that is heard at a place of a track. Lengths and places are in frames.
 #[derive(Clone, Copy, Debug, PartialEq, Eq)]
@@ -24,4 +24,8 @@ pub struct Region {
     pub fade_in: u64,
     /// The frames of its fade-out, with the fade-in at most `length` in all.
     pub fade_out: u64,
+    /// How its fade-in goes.
+    pub shape_in: Shape,
+    /// How its fade-out goes.
+    pub shape_out: Shape,
 }

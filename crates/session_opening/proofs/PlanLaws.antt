@@ -9,7 +9,7 @@ use Rattle.session_walk.specs.Section.{Read}
 use Rattle.session_toml.specs.Session.{session}
 use Rattle.session_toml.proofs.SessionLaws.{accepted_is_valid}
 use Rattle.session_opening.specs.Laws.{IsPlayable, FirstOf, PlanIsPlayable, RefusedIsFirst}
-use Rattle.session_opening.specs.Plan.{◌>>=◌, Open, Plan, Wrong, NoCommand, SessionRefused, NotBuilt, SourceRefused, text_in, read, plain, session_in, sources_in, plan_of_export}
+use Rattle.session_opening.specs.Plan.{◌>>=◌, Open, Plan, Wrong, SessionRefused, NotBuilt, SourceRefused, text_in, read, plain, read_session, session_in, sources_in, plan_of_export}
 use Rattle.session_opening.proofs.SourceLaws.{each_head, first_of}
 
 -- what came first, and what it went on to
@@ -28,14 +28,19 @@ plain_is t s e = by (is_plain t) refl e
     by true is e = (cc, is)
     by false is e = absurd cc
 
+-- the session of a file is that of some bytes
+read_of_bytes : (file : Option (List ℕ)) (s : Session) → read_session file ≡ Ok s → (bytes : List ℕ) × (session bytes ≡ Ok s)
+unfolding read_session
+read_of_bytes file s e = let text = after (text_in file) _ s e in (text.0, read_is (session text.0) s text.2)
+
 -- the session of a file is valid and plain
 session_is : (file : Option (List ℕ)) (s : Session) → session_in file ≡ Ok s → IsValid s × (is_plain s ≡ true)
 unfolding session_in
 session_is file s e =
-    let text = after (text_in file) _ s e in
-    let t = after (read (session text.0)) plain s text.2 in
+    let t = after (read_session file) plain s e in
     let last = plain_is t.0 s t.2 in
-    (subst IsValid last.0 (accepted_is_valid text.0 t.0 (read_is (session text.0) t.0 t.1)), ap is_plain (sym last.0) ∙ last.1)
+    let text = read_of_bytes file t.0 t.1 in
+    (subst IsValid last.0 (accepted_is_valid text.0 t.0 text.1), ap is_plain (sym last.0) ∙ last.1)
 
 pub plan_is_playable : PlanIsPlayable
 unfolding plan_of_export
@@ -50,21 +55,19 @@ plan_is_playable files e o is =
 -- nothing is said of a source
 abbrev NoSourceIn : {A : Type 0} → Open A → Type 0
 NoSourceIn (Ok a) = Unit {0}
-NoSourceIn (Err NoCommand) = Unit {0}
 NoSourceIn (Err (SessionRefused w)) = Unit {0}
 NoSourceIn (Err NotBuilt) = Unit {0}
 NoSourceIn (Err (SourceRefused n w)) = ⊥
 
 none_then : {A B : Type 0} (r : Open A) (f : A → Open B) → NoSourceIn r → ((a : A) → NoSourceIn (f a)) → NoSourceIn (r >>= f)
 none_then (Ok a) f never later = later a
-none_then (Err NoCommand) f never later = tt
 none_then (Err (SessionRefused w)) f never later = tt
 none_then (Err NotBuilt) f never later = tt
 none_then (Err (SourceRefused n w)) f never later = never
 
 none_in_session : (file : Option (List ℕ)) → NoSourceIn (session_in file)
-unfolding session_in
-none_in_session file = none_then (text_in file) _ (text file) (λ t. none_then (read (session t)) plain (reads (session t)) (λ s. form s (is_plain s)))
+unfolding session_in read_session
+none_in_session file = none_then (read_session file) plain (none_then (text_in file) _ (text file) (λ t. reads (session t))) (λ s. form s (is_plain s))
   where
     choice : (b : Bool) (x y : Open (List ℕ)) → NoSourceIn x → NoSourceIn y → NoSourceIn (cond b x y)
     choice true x y p q = p

@@ -1,19 +1,19 @@
--- Worked values: words that open nothing.
+-- Worked values: what words mean, and an export that opens nothing.
 use Rattle.std.proofs.Common.{◌≡◌, ℕ, refl, List, [], ◌∷◌, Option, Some, None, codes}
 use Rattle.std.specs.Prelude.{Err}
 use Rattle.session_model.specs.declared.refusal.SessionRefusal.TheVariants.{Absent}
-use Rattle.session_opening.specs.Plan.{NoCommand, SessionRefused, plan_of, plan_of_export, session_in}
-use Rattle.session_opening.specs.Words.{command, positional, export_of}
+use Rattle.session_opening.specs.Plan.{SessionRefused, plan_of_export, read_session, session_in}
+use Rattle.session_opening.specs.Words.{ToExport, ToMigrate, command, positional, export_of}
 
 -- no files
 abbrev nothing : List ℕ → Option (List ℕ)
 nothing q = None
 
-of_six : command (codes "export" ∷ codes "s.toml" ∷ codes "6" ∷ codes "2" ∷ []) ≡ Some (record { session = codes "s.toml"; from = 6; cycles = 2 })
+of_six : command (codes "export" ∷ codes "s.toml" ∷ codes "6" ∷ codes "2" ∷ []) ≡ Some (ToExport (record { session = codes "s.toml"; from = 6; cycles = 2 }))
 unfolding positional export_of
 of_six = refl
 
-behind_the_marker : command (codes "export" ∷ codes "s.toml" ∷ codes "--" ∷ codes "0" ∷ codes "100000" ∷ []) ≡ Some (record { session = codes "s.toml"; from = 0; cycles = 100000 })
+behind_the_marker : command (codes "export" ∷ codes "s.toml" ∷ codes "--" ∷ codes "0" ∷ codes "100000" ∷ []) ≡ Some (ToExport (record { session = codes "s.toml"; from = 0; cycles = 100000 }))
 unfolding positional export_of
 behind_the_marker = refl
 
@@ -21,10 +21,34 @@ no_cycles : command (codes "export" ∷ codes "s.toml" ∷ codes "0" ∷ codes "
 unfolding positional export_of
 no_cycles = refl
 
-two_words : plan_of nothing (codes "export" ∷ codes "s.toml" ∷ []) ≡ Err NoCommand
-unfolding plan_of positional
+two_words : command (codes "export" ∷ codes "s.toml" ∷ []) ≡ None
+unfolding positional
 two_words = refl
 
-absent : plan_of nothing (codes "export" ∷ codes "s.toml" ∷ codes "0" ∷ codes "2" ∷ []) ≡ Err (SessionRefused Absent)
-unfolding plan_of plan_of_export session_in positional export_of
+of_one : command (codes "migrate" ∷ codes "s.toml" ∷ []) ≡ Some (ToMigrate (codes "s.toml"))
+unfolding positional
+of_one = refl
+
+a_marker_first : command (codes "migrate" ∷ codes "--" ∷ codes "-s" ∷ []) ≡ Some (ToMigrate (codes "-s"))
+unfolding positional
+a_marker_first = refl
+
+an_option : command (codes "migrate" ∷ codes "-s" ∷ []) ≡ None
+unfolding positional
+an_option = refl
+
+of_none : command (codes "migrate" ∷ []) ≡ None
+unfolding positional
+of_none = refl
+
+of_two : command (codes "migrate" ∷ codes "a" ∷ codes "b" ∷ []) ≡ None
+unfolding positional
+of_two = refl
+
+a_path : command (codes "migrate" ∷ codes "../s.toml" ∷ []) ≡ None
+unfolding positional
+a_path = refl
+
+absent : plan_of_export nothing (record { session = codes "s.toml"; from = 0; cycles = 2 }) ≡ Err (SessionRefused Absent)
+unfolding plan_of_export session_in read_session
 absent = refl

@@ -4,17 +4,21 @@ use Rattle.ses_io.specs.Faults.{risen}
 use Rattle.ses_io.specs.Files.{Files}
 use Rattle.ses_io.specs.Outside.{MediaOutside}
 use Rattle.session_model.specs.declared.session.SourceDecl.{SourceDecl}
+use Rattle.session_model.specs.declared.session.Session.{Session as Opening}
 use Rattle.session_model.specs.Valid.{IsValid}
 use Rattle.engine_model.specs.PlainSession.{is_plain}
 use Rattle.edition_log.specs.EditionState.{IsEditionOf}
 use Rattle.session_walk.specs.declared.fault.SessionFault.{SessionFault}
 use Rattle.session_walk.specs.declared.fault.SessionFault.TheVariants as fault
+use Rattle.session_toml.specs.Session.{session as read_as}
 use Rattle.audio_source.specs.declared.refusal.FileRefusal.{FileRefusal}
 use Rattle.audio_source.specs.Opened.{IsListed, IsOpened}
 use Rattle.audio_source.specs.Refusals.{why_of}
 use Rattle.session_opening.specs.declared.loading.Loaded.{Loaded}
 use Rattle.session_opening.specs.declared.unopened.Unopened.{Unopened}
 use Rattle.session_opening.specs.declared.unopened.Unopened.TheVariants.{Session, NotBuilt, Source, ReadFault, NoMemory}
+use Rattle.session_opening.specs.declared.no_session.NoSession.{NoSession}
+use Rattle.session_opening.specs.declared.no_session.NoSession.TheVariants as no_session
 use Rattle.session_opening.specs.declared.reading.Unread.{Unread}
 use Rattle.session_opening.specs.declared.reading.Unread.TheVariants as unread
 use Rattle.session_opening.specs.Plan as wrong
@@ -35,6 +39,21 @@ Refuses given NoMemory = Unit {0}
 abbrev pub Gives : {A B : Type 0} → (B → A) → Open A → Result B Unopened → Type 0
 Gives view given (Ok b) = given ≡ Ok (view b)
 Gives view given (Err why) = Refuses given why
+
+-- why there is no session, as an opening says it
+abbrev pub unopened : NoSession → Unopened
+unopened (no_session.Refused refusal) = Session refusal
+unopened no_session.ReadFault = ReadFault
+unopened no_session.NoMemory = NoMemory
+
+-- some text is read as this session
+abbrev pub IsRead : Opening → Type 0
+IsRead s = (text : List ℕ) × (read_as text ≡ Ok s)
+
+-- what a session's file is read as, or the first thing that is wrong
+abbrev pub GivesSession : {A B : Type 0} → (B → A) → Open A → Result B NoSession → Type 0
+GivesSession view given (Ok b) = given ≡ Ok (view b)
+GivesSession view given (Err why) = Refuses given (unopened why)
 
 -- an opening of an export, as the definition has it
 abbrev pub plan_from : Export → Loaded → Plan
@@ -80,10 +99,15 @@ Caused outside old new (Err NotBuilt) = outside.read_faults new ≡ outside.read
 Caused outside old new (Err (Source name why)) = outside.read_faults new ≡ outside.read_faults old
 Caused outside old new (Err NoMemory) = outside.read_faults new ≡ outside.read_faults old
 
-abbrev pub by_read : Unread → Unopened
-by_read unread.Fault = ReadFault
-by_read unread.NoMemory = NoMemory
+-- the same of a session's file
+abbrev pub CausedSession : {V A : Type 0} → MediaOutside V → V → V → Result A NoSession → Type 0
+CausedSession outside old new (Ok a) = outside.read_faults new ≡ outside.read_faults old
+CausedSession {A} outside old new (Err why) = Caused {A = A} outside old new (Err (unopened why))
 
-abbrev pub by_text : SessionFault → Unopened
-by_text (fault.Refused refusal) = Session refusal
-by_text fault.NoMemory = NoMemory
+abbrev pub by_read : Unread → NoSession
+by_read unread.Fault = no_session.ReadFault
+by_read unread.NoMemory = no_session.NoMemory
+
+abbrev pub by_text : SessionFault → NoSession
+by_text (fault.Refused refusal) = no_session.Refused refusal
+by_text fault.NoMemory = no_session.NoMemory

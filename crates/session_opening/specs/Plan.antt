@@ -1,4 +1,4 @@
--- What an export opens, or the first thing that keeps it from being opened, by the words and the files (own).
+-- What an export opens, or the first thing that keeps it from being opened, by its words and the files (own).
 use Rattle.std.specs.Prelude.{ℕ, nat_lt, if◌then◌else◌, List, [], ◌∷◌, length, Option, Some, None, Result, Ok, Err}
 use Rattle.sound_model.specs.Wav.{Head}
 use Rattle.ses_io.specs.Files.{Files}
@@ -10,11 +10,9 @@ use Rattle.engine_model.specs.PlainSession.{is_plain}
 use Rattle.session_walk.specs.Section.{Read}
 use Rattle.session_toml.specs.Session.{session}
 use Rattle.audio_source.specs.Refusals.{SourceRefusal, source_head}
-use Rattle.session_opening.specs.Words.{Export, command}
+use Rattle.session_opening.specs.Words.{Export}
 
 pub data Wrong : Type 0 where
-  -- the words are no command
-  NoCommand : Wrong
   -- the session's file is absent or too long, or its text breaks this rule
   SessionRefused : SessionRefusal → Wrong
   -- the session isn't in the form that is built
@@ -46,12 +44,13 @@ read (Err refusal) = Err (SessionRefused refusal)
 abbrev pub plain : Session → Open Session
 plain s = if is_plain s then Ok s else Err NotBuilt
 
--- the session of a file
+-- the session of a file, whatever its form
+unfoldable pub read_session : Option (List ℕ) → Open Session
+read_session file = text_in file >>= λ text. read (session text)
+
+-- the session of a file, in the form that is built
 unfoldable pub session_in : Option (List ℕ) → Open Session
-session_in file = do
-  text ← text_in file
-  s ← read (session text)
-  plain s
+session_in file = read_session file >>= plain
 
 -- ---- its sources
 
@@ -82,11 +81,3 @@ plan_of_export files e = do
   s ← session_in (files e.session)
   sources ← sources_in files s.rate s.sources.items
   Ok (record { session = s; from = e.from; cycles = e.cycles })
-
-abbrev pub plan_for : Files → Option Export → Open Plan
-plan_for files None = Err NoCommand
-plan_for files (Some e) = plan_of_export files e
-
--- what the words open
-unfoldable pub plan_of : Files → List (List ℕ) → Open Plan
-plan_of files words = plan_for files (command words)

@@ -1,6 +1,6 @@
 -- What the words of the command line mean (own). Words are lists of bytes.
 use Rattle.std.specs.Prelude.{ℕ, ◌+◌, ◌-◌, ◌*◌, Bool, false, ◌&&◌, ◌==◌, nat_le, if◌then◌else◌, List, [], ◌∷◌, ◌++◌, length, Option, Some, None, codes, bytes_eq}
-use Rattle.std.specs.Option.{option_map}
+use Rattle.std.specs.Option.{option_map, option_and_then}
 use Rattle.session_model.specs.FileName.{is_file_name}
 
 -- ---- numbers
@@ -40,10 +40,10 @@ positional (w ∷ ws) = if bytes_eq w (codes "--") then Some ws
 abbrev pub words_after : Bool → List (List ℕ) → List (List ℕ) → Option (List (List ℕ))
 words_after marked found rest = if marked then Some (found ++ rest) else option_map (λ later. found ++ later) (positional rest)
 
--- the positional words where there are three
-abbrev pub three : Option (List (List ℕ)) → Option (List (List ℕ))
-three (Some (a ∷ b ∷ c ∷ [])) = Some (a ∷ b ∷ c ∷ [])
-three _ = None
+-- the positional words where there are at most three: no command has more
+abbrev pub few : Option (List (List ℕ)) → Option (List (List ℕ))
+few (Some (a ∷ b ∷ c ∷ d ∷ ws)) = None
+few words = words
 
 -- ---- commands
 
@@ -55,6 +55,11 @@ pub record Export : Type 0 where
   pub from : ℕ
   pub cycles : ℕ
 
+pub data Command : Type 0 where
+  ToExport : Export → Command
+  -- `migrate S`, by the name of the session's file
+  ToMigrate : List ℕ → Command
+
 abbrev pub both_in : List ℕ → Option ℕ → Option ℕ → Option Export
 both_in session None cycles = None
 both_in session (Some from) None = None
@@ -64,11 +69,21 @@ both_in session (Some from) (Some cycles) = Some (record { session = session; fr
 unfoldable pub export_of : List ℕ → List ℕ → List ℕ → Option Export
 export_of session from cycles = if is_file_name session then both_in session (within 0 1099511627775 (number from)) (within 1 100000 (number cycles)) else None
 
-abbrev pub with_words : Option (List (List ℕ)) → Option Export
-with_words (Some (session ∷ from ∷ cycles ∷ [])) = export_of session from cycles
-with_words _ = None
+-- three words
+abbrev pub export_by : List (List ℕ) → Option Command
+export_by (session ∷ from ∷ cycles ∷ []) = option_map ToExport (export_of session from cycles)
+export_by _ = None
+
+-- one word, a file's name
+abbrev pub migrate_by : List (List ℕ) → Option Command
+migrate_by (session ∷ []) = if is_file_name session then Some (ToMigrate session) else None
+migrate_by _ = None
+
+-- the command of that name, with these positional words
+abbrev pub named : List ℕ → List (List ℕ) → Option Command
+named name words = if bytes_eq name (codes "export") then export_by words else (if bytes_eq name (codes "migrate") then migrate_by words else None)
 
 -- the command that the words are
-abbrev pub command : List (List ℕ) → Option Export
+abbrev pub command : List (List ℕ) → Option Command
 command [] = None
-command (w ∷ ws) = if bytes_eq w (codes "export") then with_words (three (positional ws)) else None
+command (w ∷ ws) = option_and_then (named w) (positional ws)

@@ -1,14 +1,18 @@
 //! What the words of the command line and the files of the media open to, or the first thing that is wrong.
 #![tactic(auto)]
 
+mod asked;
 mod laws;
 mod loading;
+mod no_session;
 mod plain;
 mod reading;
 mod unopened;
 mod words;
 
+pub use asked::{Command, Export};
 pub use laws::{plan_is_playable, refused_is_first};
-pub use loading::{Loaded, open};
+pub use loading::{Loaded, open, read_session};
+pub use no_session::NoSession;
 pub use unopened::Unopened;
-pub use words::{Export, command};
+pub use words::command;

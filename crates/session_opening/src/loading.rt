@@ -3,15 +3,16 @@ ghost use Rattle.std.specs.Prelude.{◌≡◌, true, IfOk};
 ghost use Rattle.session_model.specs.Valid.{IsValid};
 ghost use Rattle.engine_model.specs.PlainSession.{is_plain};
 ghost use Rattle.audio_source.specs.Opened.{IsListed, IsOpened};
-ghost use Rattle.session_opening.specs.Answers.{Gives, IsLoaded, HasHeads, Caused, plan_from, refusal_at};
+ghost use Rattle.session_opening.specs.Answers.{Gives, GivesSession, IsRead, IsLoaded, HasHeads, Caused, CausedSession, plan_from, refusal_at};
 ghost use Rattle.session_opening.specs.Plan as spec;
 ghost use Rattle.session_opening.specs.Spoken.{export_view};
 ghost use Rattle.ses_io.specs.Outside.{OnlyReads};
 
+use crate::asked::Export;
+use crate::no_session::NoSession;
 use crate::plain::is_plain;
 use crate::reading::read_whole;
 use crate::unopened::Unopened;
-use crate::words::Export;
 use audio_source::{FileRefusal, OpenRefusal, Sources};
 use edition_log::Edition;
 use ses_io::Media;
@@ -30,20 +31,40 @@ pub struct Loaded {
 }
 
 // The text of the session's file.
-fn text_in<M: Media>(alloc: Global, media: &mut M, name: &str) -> Result<Vec<u8>, Unopened>
+fn text_in<M: Media>(alloc: Global, media: &mut M, name: &str) -> Result<Vec<u8>, NoSession>
     ensures told { M.outside.tells
-        → Gives (λ v. v.items) (spec.text_in (M.outside.files media.old name.now)) result }
+        → GivesSession (λ v. v.items) (spec.text_in (M.outside.files media.old name.now)) result }
     ensures only_reads { OnlyReads M.outside media.old media.new }
-    ensures cause { Caused M.outside media.old media.new result }
+    ensures cause { CausedSession M.outside media.old media.new result }
 {
     let Some(size) = media.size(name)? else {
-        return Err(Unopened::Session(SessionRefusal::Absent));
+        return Err(NoSession::Refused(SessionRefusal::Absent));
     };
     if size > SESSION_BYTES {
-        return Err(Unopened::Session(SessionRefusal::TooLong(size)));
+        return Err(NoSession::Refused(SessionRefusal::TooLong(size)));
     }
     let text = read_whole(alloc, media, name, size)?;
     Ok(text)
+}
+
+/// The session of the file of that name, whatever its form. What is wrong is told in this order: the file, then its text by
+/// the first rule that it breaks.
+#[tactic(auto, unfolding(crate::specs::Plan::read_session))]
+pub fn read_session<M: Media>(
+    alloc: Global,
+    media: &mut M,
+    name: &str,
+) -> Result<Session, NoSession>
+    ensures told { M.outside.tells
+        → GivesSession (λ s. s) (spec.read_session (M.outside.files media.old name.now)) result }
+    ensures read { IfOk result IsRead }
+    ensures valid { IfOk result IsValid }
+    ensures only_reads { OnlyReads M.outside media.old media.new }
+    ensures cause { CausedSession M.outside media.old media.new result }
+{
+    let text = text_in(alloc, media, name)?;
+    let session = session_of(alloc, &text)?;
+    Ok(session)
 }
 
 // The session of a file, where it is in the form that is built.
@@ -56,8 +77,7 @@ fn session_in<M: Media>(alloc: Global, media: &mut M, name: &str) -> Result<Sess
     ensures only_reads { OnlyReads M.outside media.old media.new }
     ensures cause { Caused M.outside media.old media.new result }
 {
-    let text = text_in(alloc, media, name)?;
-    let session = session_of(alloc, &text)?;
+    let session = read_session(alloc, media, name)?;
     if !is_plain(&session) {
         return Err(Unopened::NotBuilt);
     }

@@ -1,10 +1,9 @@
 //! Why an export isn't played.
-use crate::reading::Unread;
+use crate::no_session::NoSession;
 use audio_source::FileRefusal;
-use ses_io::{Failed, NoMemory};
+use ses_io::NoMemory;
 use ses_units::Name;
 use session_model::SessionRefusal;
-use session_toml::SessionFault;
 
 /// Why an export isn't played: the first of these that holds. ReadFault and NoMemory may stand in place of each.
 #[derive(Clone, Copy, PartialEq, Eq)]
@@ -21,17 +20,6 @@ pub enum Unopened {
     NoMemory,
 }
 
-impl From<Failed> for Unopened {
-    ghost use Rattle.std.specs.Prelude.{◌≡◌};
-    ghost use Rattle.session_opening.specs.declared.unopened.Unopened.TheVariants.{ReadFault};
-
-    ghost from_gives = { λ _ e. e ≡ ReadFault };
-
-    fn from(_error: Failed) -> Unopened {
-        Unopened::ReadFault
-    }
-}
-
 impl From<NoMemory> for Unopened {
     ghost use Rattle.std.specs.Prelude.{◌≡◌};
     ghost use Rattle.session_opening.specs.declared.unopened.Unopened.TheVariants as why;
@@ -43,30 +31,17 @@ impl From<NoMemory> for Unopened {
     }
 }
 
-impl From<Unread> for Unopened {
+impl From<NoSession> for Unopened {
     ghost use Rattle.std.specs.Prelude.{◌≡◌};
-    ghost use Rattle.session_opening.specs.Answers.{by_read};
+    ghost use Rattle.session_opening.specs.Answers.{unopened};
 
-    ghost from_gives = { λ u e. e ≡ by_read u };
+    ghost from_gives = { λ n e. e ≡ unopened n };
 
-    fn from(unread: Unread) -> Unopened {
-        match unread {
-            Unread::Fault => Unopened::ReadFault,
-            Unread::NoMemory => Unopened::NoMemory,
-        }
-    }
-}
-
-impl From<SessionFault> for Unopened {
-    ghost use Rattle.std.specs.Prelude.{◌≡◌};
-    ghost use Rattle.session_opening.specs.Answers.{by_text};
-
-    ghost from_gives = { λ f e. e ≡ by_text f };
-
-    fn from(fault: SessionFault) -> Unopened {
-        match fault {
-            SessionFault::Refused(refusal) => Unopened::Session(refusal),
-            SessionFault::NoMemory => Unopened::NoMemory,
+    fn from(why: NoSession) -> Unopened {
+        match why {
+            NoSession::Refused(refusal) => Unopened::Session(refusal),
+            NoSession::ReadFault => Unopened::ReadFault,
+            NoSession::NoMemory => Unopened::NoMemory,
         }
     }
 }

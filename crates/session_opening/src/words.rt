@@ -1,22 +1,13 @@
 //! What the words of the command line mean.
-ghost use Rattle.std.specs.Prelude.{◌≡◌, ◌<◌, ◌^◌, ◌≤◌, ℕ, List, if◌then◌else◌, map, IfSome, None, ◌∷◌, length, codes, bytes_eq};
+ghost use Rattle.std.specs.Prelude.{◌≡◌, ◌<◌, ◌^◌, ◌≤◌, ℕ, List, if◌then◌else◌, IfSome, None, ◌∷◌, length, codes, bytes_eq};
 ghost use Rattle.std.specs.Option.{option_map};
 ghost use Rattle.session_opening.specs.Words as spec;
-ghost use Rattle.session_opening.specs.Spoken.{three_words, export_view, words_with};
+ghost use Rattle.session_opening.specs.Spoken.{texts, export_view, command_view, IfExport, words_with};
 
+use crate::asked::{Command, Export};
 use arrayvec::ArrayVec;
 use ses_units::limits::{CYCLES, END};
 use session_model::is_file_name;
-
-/// The words of `export S FROM CYCLES`.
-#[derive(Clone, Copy, Debug)]
-pub struct Export<'a> {
-    /// The name of the session's file.
-    pub session: &'a str,
-    /// The first position, in frames.
-    pub from: u64,
-    pub cycles: u32,
-}
 
 fn is_digit(b: u8) -> bool
     ensures { result ≡ spec.is_digit b }
@@ -65,14 +56,6 @@ fn is_marker(word: &str) -> bool
     word == "--"
 }
 
-// The three words of an export.
-#[derive(Clone, Copy)]
-struct Three<'a> {
-    session: &'a str,
-    from: &'a str,
-    cycles: &'a str,
-}
-
 // The positional words among those that were looked at: at most three, and whether `--` stood among them.
 #[derive(Drop)]
 struct Positionals<'a> {
@@ -82,10 +65,10 @@ struct Positionals<'a> {
 
 impl<'a> Positionals<'a> {
     // Looks at one word more: `--` makes all later words positional, and no option is known yet. False where the words aren't
-    // three positional ones, whatever follows.
+    // positional ones, three at most, whatever follows.
     fn look_at(&mut self, word: &'a str) -> bool
-        ensures { (rest : List (List ℕ)) → spec.three (words_with self.old (word.now ∷ rest))
-            ≡ (if result then spec.three (words_with self.new rest) else None) }
+        ensures { (rest : List (List ℕ)) → spec.few (words_with self.old (word.now ∷ rest))
+            ≡ (if result then spec.few (words_with self.new rest) else None) }
     {
         if !self.marked {
             if is_marker(word) {
@@ -104,10 +87,10 @@ impl<'a> Positionals<'a> {
     }
 }
 
-// The positional words, where there are three.
-fn positional<'a>(words: &[&'a str]) -> Option<Three<'a>>
-    ensures { option_map three_words result
-        ≡ spec.three (spec.positional (map (λ w. w.now) words.now)) }
+// The positional words, where there are at most three.
+fn positional<'a>(words: &[&'a str]) -> Option<ArrayVec<&'a str, 3>>
+    ensures { spec.few (option_map (λ v. texts v.items) result)
+        ≡ spec.few (spec.positional (texts words.now)) }
 {
     let mut all = Positionals {
         found: ArrayVec::new(),
@@ -118,15 +101,7 @@ fn positional<'a>(words: &[&'a str]) -> Option<Three<'a>>
             return None;
         }
     }
-    if !all.found.is_full() {
-        return None;
-    }
-    let found = all.found.as_slice();
-    Some(Three {
-        session: found[0],
-        from: found[1],
-        cycles: found[2],
-    })
+    Some(all.found)
 }
 
 // The number, where it lies in the range.
@@ -144,6 +119,12 @@ fn is_export(word: &str) -> bool
     ensures { result ≡ bytes_eq word.now (codes "export") }
 {
     word == "export"
+}
+
+fn is_migrate(word: &str) -> bool
+    ensures { result ≡ bytes_eq word.now (codes "migrate") }
+{
+    word == "migrate"
 }
 
 #[tactic(auto, unfolding(crate::specs::Words::export_of))]
@@ -165,17 +146,43 @@ fn export_of<'a>(session: &'a str, from: &str, cycles: &str) -> Option<Export<'a
     })
 }
 
-/// The command that the words are; None where they are none.
-pub fn command<'a>(words: &[&'a str]) -> Option<Export<'a>>
-    ensures value { option_map export_view result ≡ spec.command (map (λ w. w.now) words.now) }
-    ensures start { IfSome result (λ e. e.from < 2 ^ 40) }
-    ensures some { IfSome result (λ e. 1 ≤ e.cycles) }
-    ensures few { IfSome result (λ e. e.cycles ≤ 100000) }
+#[tactic(auto, unfolding(crate::specs::Words::export_of))]
+fn export_by<'a>(words: &[&'a str]) -> Option<Command<'a>>
+    ensures value { option_map command_view result ≡ spec.export_by (texts words.now) }
+    ensures start { IfSome result (IfExport (λ e. e.from < 2 ^ 40)) }
+    ensures some { IfSome result (IfExport (λ e. 1 ≤ e.cycles)) }
+    ensures few { IfSome result (IfExport (λ e. e.cycles ≤ 100000)) }
 {
-    let (first, others) = words.split_first()?;
-    if !is_export(first) {
-        return None;
+    match words {
+        [session, from, cycles] => Some(Command::Export(export_of(session, from, cycles)?)),
+        _ => None,
     }
-    let three = positional(others)?;
-    export_of(three.session, three.from, three.cycles)
+}
+
+fn migrate_by<'a>(words: &[&'a str]) -> Option<&'a str>
+    ensures { option_map (λ w. spec.ToMigrate w.now) result ≡ spec.migrate_by (texts words.now) }
+{
+    match words {
+        [session] if is_file_name(session.as_bytes()) => Some(session),
+        _ => None,
+    }
+}
+
+/// The command that the words are; None where they are none.
+pub fn command<'a>(words: &[&'a str]) -> Option<Command<'a>>
+    ensures value { option_map command_view result ≡ spec.command (texts words.now) }
+    ensures start { IfSome result (IfExport (λ e. e.from < 2 ^ 40)) }
+    ensures some { IfSome result (IfExport (λ e. 1 ≤ e.cycles)) }
+    ensures few { IfSome result (IfExport (λ e. e.cycles ≤ 100000)) }
+{
+    let (name, others) = words.split_first()?;
+    let words = positional(others)?;
+    if is_export(name) {
+        export_by(words.as_slice())
+    } else if is_migrate(name) {
+        let session = migrate_by(words.as_slice())?;
+        Some(Command::Migrate { session })
+    } else {
+        None
+    }
 }

@@ -3,3 +3,4 @@ pub mod SoundLemmas
 pub mod StatusLemmas
 pub mod PlayedLemmas
 pub mod DoesLemmas
+pub mod MigratedLemmas

@@ -1,28 +1,25 @@
--- What a run does: one that plays, and one that doesn't.
+-- What an export does: one that plays, and one that doesn't.
 use Rattle.std.proofs.lemmas.Bool.{true≢false}
-use Rattle.std.proofs.Common.{◌≡◌, ℕ, ◌⊎◌, ◌++◌, List, [], length, refl, sym, ap, subst, ◌∙◌, inl, inr, arith}
-use Rattle.std.specs.Prelude.{true, false, Option, Some, None, IsSome, IsOk, IfSome, Result, Ok, Err, slice_get}
+use Rattle.std.proofs.Common.{◌≡◌, ℕ, ◌⊎◌, ◌++◌, List, [], refl, sym, ap, subst, ◌∙◌, inl, inr, arith}
+use Rattle.std.specs.Prelude.{true, false, Option, Some, None, IsSome, IfSome, Result, Ok, Err, slice_get}
 use Rattle.std.proofs.lemmas.Option.{slice_get_within}
 use Rattle.sound_model.specs.Regions.{Sounds}
 use Rattle.session_model.specs.declared.edit.Edit.{Edit}
-use Rattle.ses_io.specs.Files.{Files}
 use Rattle.ses_io.specs.Outside.{MediaOutside, SinkOutside, OnlyReads}
 use Rattle.ses_io.specs.FixedList.{Listed}
 use Rattle.ses_io.specs.declared.world.World.{World}
 use Rattle.engine_model.specs.Journal as engine
 use Rattle.engine_model.specs.Fits.{is_lawful}
-use Rattle.engine_model.specs.Plain.{plain, export_commands}
 use Rattle.engine_model.specs.PlainSession.{is_plain}
 use Rattle.engine_model.specs.Played.{master_file, samples_of}
 use Rattle.audio_source.specs.Told.{source_sound}
 use Rattle.cycle_journal.specs.declared.entry.Entry.{Entry}
 use Rattle.cycle_journal.specs.declared.status.Status.{Status}
-use Rattle.cycle_journal.specs.declared.status.Status.TheVariants.{Done, Usage, MasterFault, ReadFault, NoMemory}
+use Rattle.cycle_journal.specs.declared.status.Status.TheVariants.{Done, MasterFault, ReadFault}
 use Rattle.cycle_journal.specs.JournalView.{seen_entries}
 use Rattle.disk_ring.specs.Rings.{Whole}
 use Rattle.process_cycle.specs.declared.finished.Finished.{Finished}
 use Rattle.process_cycle.specs.declared.finished.TrackRings.{TrackRings}
-use Rattle.process_cycle.specs.declared.opened.Script.{Script}
 use Rattle.engine_core.specs.Events.{KeepsTheRest, IsPlayedOut, journal_of}
 use Rattle.engine_core.specs.Passed.{AllGenuine, AllStayOpen, PassedOn}
 use Rattle.engine_core.specs.Serial.{IsCounted}
@@ -34,7 +31,7 @@ use Rattle.session_opening.specs.declared.loading.Loaded.{Loaded}
 use Rattle.session_opening.specs.declared.unopened.Unopened.{Unopened}
 use Rattle.session_opening.specs.declared.unopened.Unopened.TheVariants as failed
 use Rattle.session_run.specs.declared.outcome.Outcome.{Outcome}
-use Rattle.session_run.specs.Headline.{IsStill, WherePlayed, WhereAsked, IsRun, IsExport, IsOfSome, HasCauses, edits_of, exported, sounds_in}
+use Rattle.session_run.specs.Exported.{IsStill, WherePlayed, IsRun, IsExport, IsOfSome, edits_of, exported, sounds_in}
 use Rattle.session_run.specs.Status.{HasPlayed, IsOfExport, ReadsFailed, WritesFailed, EndsWith, status_at_end, status_of}
 use Rattle.session_run.proofs.SoundLemmas.{sounds_are}
 use Rattle.session_run.proofs.StatusLemmas as status
@@ -44,13 +41,13 @@ pub not_there : (plan : Result Plan Wrong) (P : Plan → List engine.Entry → T
 not_there (Ok o) P = tt
 not_there (Err w) P = tt
 
-pub none_played : (e : Option Export) (journal : Option (Listed Entry)) (P : Export → List engine.Entry → Type 0) → journal ≡ None → WhereAsked e journal P
-none_played e journal P none = subst (λ j. WhereAsked e j P) (sym none) (by e) where
-  by : (e : Option Export) → WhereAsked e None P
-  by (Some w) = tt
-  by None = tt
+-- what is so of each journal
+some_played : (journal : Option (Listed Entry)) (P Q : List engine.Entry → Type 0) → ((es : List engine.Entry) → P es → Q es) →
+    IfSome journal (λ j. P (seen_entries j.items)) → IfSome journal (λ j. Q (seen_entries j.items))
+some_played (Some journal) P Q goes is = goes (seen_entries journal.items) is
+some_played None P Q goes is = tt
 
-none_open : (t : ℕ) (r : TrackRings) → slice_get [] t ≡ Some r → r.plays.closed ≡ false
+pub none_open : (t : ℕ) (r : TrackRings) → slice_get [] t ≡ Some r → r.plays.closed ≡ false
 none_open t r here = absurd (omega (arith, slice_get_within [] t r here))
 
 -- what is so of each plan and its entries
@@ -62,37 +59,32 @@ where_played (Err wrong) (Some journal) P Q goes is = is
 where_played (Err wrong) None P Q goes is = tt
 
 module _ {M I C W O : Type 0} (outside : MediaOutside M) (sink : SinkOutside W) where
-  -- what every run does that was asked for this and made this plan
-  pub record Does (plan : Result Plan Wrong) (asked : Option Export) (old : World M I C W O) (new : Outcome M I C W O) : Type 0 where
-    pub ends : outside.tells → EndsWith plan new.status
+  -- what every export does that made this plan
+  pub record Exports (plan : Result Plan Wrong) (e : Export) (old : World M I C W O) (new : Outcome M I C W O) : Type 0 where
+    pub ends : outside.tells → EndsWith MasterFault plan new.status
     pub status : IsOfExport new.status
     pub export : outside.tells → WherePlayed plan new.journal (IsExport outside sink old new)
-    pub alone : WhereAsked asked new.journal (IsOfSome sink old new)
-    pub causes : HasCauses outside sink old new
+    pub alone : IfSome new.journal (λ j. IsOfSome sink old new e (seen_entries j.items))
+    pub reads : ReadsFailed (outside.read_faults old.media) (outside.read_faults new.world.media) new.status
+    pub writes : WritesFailed MasterFault (sink.faults old.master) (sink.faults new.world.master) new.status
+    pub still_open : IsStill (outside.read_faults old.media) (outside.read_faults new.world.media) → AllStayOpen new.rings.items
     pub played : HasPlayed old new
     pub only_reads : OnlyReads outside old.media new.world.media
     pub rest : KeepsTheRest old new.world
 
-  -- where nothing is wrong and nothing failed, only want of memory kept it from Done
-  pub complete : (plan : Result Plan Wrong) (asked : Option Export) (old : World M I C W O) (new : Outcome M I C W O) → Does plan asked old new → outside.tells → IsOk plan →
-      IsStill (outside.read_faults old.media) (outside.read_faults new.world.media) → IsStill (sink.faults old.master) (sink.faults new.world.master) → (new.status ≡ Done) ⊎ (new.status ≡ NoMemory)
-  complete plan asked old new d t ok reads writes = status.completes plan new.status (outside.read_faults old.media) (outside.read_faults new.world.media) (sink.faults old.master) (sink.faults new.world.master) (d.ends t) ok reads writes d.causes.reads d.causes.writes
-
   -- a run that plays nothing
-  pub idle : (plan : Open Plan) (asked : Option Export) (says : Status) (old now : World M I C W O) (media : M) → (outside.tells → EndsWith plan says) → IsOfExport says →
+  pub idle : (plan : Open Plan) (e : Export) (says : Status) (old now : World M I C W O) (media : M) → (outside.tells → EndsWith MasterFault plan says) → IsOfExport says →
       (says ≡ Done → ⊥) → (says ≡ MasterFault → ⊥) → ReadsFailed (outside.read_faults old.media) (outside.read_faults media) says →
       now ≡ record old { media = media } → OnlyReads outside old.media media →
-      (new : Outcome M I C W O) → new.status ≡ says → new.world ≡ now → new.journal ≡ None → new.rings.items ≡ [] → new.acks ≡ None → Does plan asked old new
-  idle plan asked says old now media ends of_export not_done not_master cause is only new status_is world journal rings acks = let world_is : new.world ≡ record old { media = media } = world ∙ is in record {
-    ends = λ t. subst (EndsWith plan) (sym status_is) (ends t);
+      (new : Outcome M I C W O) → new.status ≡ says → new.world ≡ now → new.journal ≡ None → new.rings.items ≡ [] → new.acks ≡ None → Exports plan e old new
+  idle plan e says old now media ends of_export not_done not_master cause is only new status_is world journal rings acks = let world_is : new.world ≡ record old { media = media } = world ∙ is in record {
+    ends = λ t. subst (EndsWith MasterFault plan) (sym status_is) (ends t);
     status = subst IsOfExport (sym status_is) of_export;
     export = λ t. let P = IsExport outside sink old new in subst (λ j. WherePlayed plan j P) (sym journal) (not_there plan P);
-    alone = none_played asked new.journal (IsOfSome sink old new) journal;
-    causes = record {
-      reads = subst (λ (w : World M I C W O). ReadsFailed (outside.read_faults old.media) (outside.read_faults w.media) new.status) (sym world_is) (subst (ReadsFailed (outside.read_faults old.media) (outside.read_faults media)) (sym status_is) cause);
-      writes = record { cause = λ fault. absurd (not_master (sym status_is ∙ fault)); same = λ not. ap (λ (w : World M I C W O). sink.faults w.master) world_is };
-      still_open = λ still. subst AllStayOpen (sym rings) none_open;
-    };
+    alone = let P : Option (Listed Entry) → Type 0 = λ o. IfSome o (λ j. IsOfSome sink old new e (seen_entries j.items)) in subst P (sym journal) tt;
+    reads = subst (λ (w : World M I C W O). ReadsFailed (outside.read_faults old.media) (outside.read_faults w.media) new.status) (sym world_is) (subst (ReadsFailed (outside.read_faults old.media) (outside.read_faults media)) (sym status_is) cause);
+    writes = record { cause = λ fault. absurd (not_master (sym status_is ∙ fault)); same = λ not. ap (λ (w : World M I C W O). sink.faults w.master) world_is };
+    still_open = λ still. subst AllStayOpen (sym rings) none_open;
     played = record {
       only = λ some. absurd (true≢false (sym (subst IsSome journal some)));
       done = λ done. absurd (not_done (sym status_is ∙ done));
@@ -106,26 +98,24 @@ module _ {M I C W O : Type 0} (outside : MediaOutside M) (sink : SinkOutside W) 
   }
 
   -- by the reason
-  pub unplayed : (plan : Open Plan) (asked : Option Export) (why : Unopened) (old now : World M I C W O) (media : M) → (outside.tells → Refuses plan why) → now ≡ record old { media = media } → OnlyReads outside old.media media →
+  pub unplayed : (plan : Open Plan) (e : Export) (why : Unopened) (old now : World M I C W O) (media : M) → (outside.tells → Refuses plan why) → now ≡ record old { media = media } → OnlyReads outside old.media media →
       Caused {A = Unit {0}} outside old.media media (Err why) → (new : Outcome M I C W O) → new.status ≡ status_of why → new.world ≡ now → new.journal ≡ None → new.rings.items ≡ [] → new.acks ≡ None →
-      Does plan asked old new
-  unplayed plan asked why old now media refuses is only cause new says world journal rings acks = idle plan asked (status_of why) old now media (λ t. status.unplayed_ends plan why (refuses t)) (inr (inr (inr (why, refl)))) (status.not_done why)
-      (status.not_master why) (status.unplayed_reads outside old.media media why cause) is only new says world journal rings acks
+      Exports plan e old new
+  unplayed plan e why old now media refuses is only cause new says world journal rings acks = idle plan e (status_of why) old now media (λ t. status.unplayed_ends MasterFault plan why (refuses t)) (inr (inr (why, refl))) (status.not_of why Done refl)
+      (status.not_of why MasterFault refl) (status.unplayed_reads outside old.media media why cause) is only new says world journal rings acks
 
   -- what is so of a media once it was read is so of it before
-  pub reopened : (plan other : Result Plan Wrong) (asked : Option Export) (old : World M I C W O) (media : M) (new : Outcome M I C W O) → (outside.tells → other ≡ plan) → OnlyReads outside old.media media →
-      outside.read_faults media ≡ outside.read_faults old.media → Does plan asked (record old { media = media }) new → Does other asked old new
-  reopened plan other asked old media new same only reads_same d = record {
-    ends = λ t. subst (λ p. EndsWith p new.status) (sym (same t)) (d.ends t);
+  pub reopened : (plan other : Result Plan Wrong) (e : Export) (old : World M I C W O) (media : M) (new : Outcome M I C W O) → (outside.tells → other ≡ plan) → OnlyReads outside old.media media →
+      outside.read_faults media ≡ outside.read_faults old.media → Exports plan e (record old { media = media }) new → Exports other e old new
+  reopened plan other e old media new same only reads_same d = record {
+    ends = λ t. subst (λ p. EndsWith MasterFault p new.status) (sym (same t)) (d.ends t);
     status = d.status;
     export = λ t. subst (λ p. WherePlayed p new.journal (IsExport outside sink old new)) (sym (same t))
         (where_played plan new.journal (IsExport outside sink (record old { media = media }) new) (IsExport outside sink old new) before (d.export t));
-    alone = by_hand asked new.journal d.alone;
-    causes = record {
-      reads = subst (λ n. ReadsFailed n (outside.read_faults new.world.media) new.status) reads_same d.causes.reads;
-      writes = d.causes.writes;
-      still_open = λ still. d.causes.still_open (record { same = still.same ∙ sym reads_same; short = omega (arith, still.short, reads_same) });
-    };
+    alone = some_played new.journal (IsOfSome sink (record old { media = media }) new e) (IsOfSome sink old new e) by_hand d.alone;
+    reads = subst (λ n. ReadsFailed n (outside.read_faults new.world.media) new.status) reads_same d.reads;
+    writes = d.writes;
+    still_open = λ still. d.still_open (record { same = still.same ∙ sym reads_same; short = omega (arith, still.short, reads_same) });
     played = record { only = d.played.only; done = d.played.done; master = d.played.master; acknowledged = d.played.acknowledged; acks = d.played.acks; nothing = d.played.nothing };
     only_reads = record { files = d.only_reads.files ∙ only.files; other_count = d.only_reads.other_count ∙ only.other_count };
     rest = record { input = d.rest.input; control = d.rest.control; out = d.rest.out };
@@ -141,11 +131,8 @@ module _ {M I C W O : Type 0} (outside : MediaOutside M) (sink : SinkOutside W) 
       cut_off = λ u rose. subst (λ f. IsCutOff (sink.held old.master) (sink.held new.world.master) p.session (edits_of p) (samples_of (sounds_in f p.session) p.session (edits_of p)) p.cycles es) only.files (e.cut_off u rose);
     }
 
-    by_hand : (asked : Option Export) (journal : Option (Listed Entry)) → WhereAsked asked journal (IsOfSome sink (record old { media = media }) new) → WhereAsked asked journal (IsOfSome sink old new)
-    by_hand (Some e) (Some journal) is = record { session = is.session; is_plain = is.is_plain; run = run_before (record { session = is.session; from = e.from; cycles = e.cycles }) (seen_entries journal.items) is.run }
-    by_hand (Some e) None is = tt
-    by_hand None (Some journal) is = is
-    by_hand None None is = tt
+    by_hand : (es : List engine.Entry) → IsOfSome sink (record old { media = media }) new e es → IsOfSome sink old new e es
+    by_hand es is = record { session = is.session; is_plain = is.is_plain; run = run_before (record { session = is.session; from = e.from; cycles = e.cycles }) es is.run }
 
   -- a run that plays
   module _ (e : Export) (x : Loaded) (old : World M I C W O) (plainly : is_plain x.edition.session ≡ true) (heads : outside.tells → HasHeads (outside.files old.media) x) (f : Finished M I C W O)
@@ -202,21 +189,20 @@ module _ {M I C W O : Type 0} (outside : MediaOutside M) (sink : SinkOutside W) 
 
     of_export_by : (new.status ≡ Done) ⊎ ((new.status ≡ MasterFault) ⊎ (new.status ≡ ReadFault)) → IsOfExport new.status
     of_export_by (inl done) = inl done
-    of_export_by (inr (inl fault)) = inr (inr (inl fault))
-    of_export_by (inr (inr fault)) = inr (inr (inr (failed.ReadFault, fault)))
+    of_export_by (inr (inl fault)) = inr (inl fault)
+    of_export_by (inr (inr fault)) = inr (inr (failed.ReadFault, fault))
 
-    pub played : Does plan (Some e) old new
+    pub played : Exports plan e old new
     played = record {
       ends = λ t. by (status.played_status f.faults.read f.faults.master new.status of);
       status = of_export_by (status.played_status f.faults.read f.faults.master new.status of);
       export = λ t. subst (λ j. WherePlayed plan j (IsExport outside sink old new)) (sym journal_is) (export t);
-      alone = subst (λ j. WhereAsked (Some e) j (IsOfSome sink old new)) (sym journal_is) (record { session = x.edition.session; is_plain = plainly; run = run });
-      causes = record {
-        reads = subst (λ n. ReadsFailed (outside.read_faults old.media) n new.status) (sym media_is) (status.reads_of f.faults.read f.faults.master new.status of (outside.read_faults old.media) (outside.read_faults f.world.media) counted);
-        writes = subst (λ n. WritesFailed (sink.faults old.master) n new.status) (sym master_is) (status.writes_of f.faults.read f.faults.master new.status of (sink.faults old.master) (sink.faults f.world.master) noted);
-        still_open = λ still. subst (λ l. AllStayOpen l.items) (sym rings_are) (leaves.still_open (status.no_rise (outside.read_faults old.media) (outside.read_faults f.world.media) f.faults.read counted
-            (record { same = sym media_is ∙ still.same; short = still.short })));
-      };
+      alone = let P : Option (Listed Entry) → Type 0 = λ o. IfSome o (λ j. IsOfSome sink old new e (seen_entries j.items)) in
+          subst P (sym journal_is) (record { session = x.edition.session; is_plain = plainly; run = run });
+      reads = subst (λ n. ReadsFailed (outside.read_faults old.media) n new.status) (sym media_is) (status.reads_of f.faults.read f.faults.master new.status of (outside.read_faults old.media) (outside.read_faults f.world.media) counted);
+      writes = subst (λ n. WritesFailed MasterFault (sink.faults old.master) n new.status) (sym master_is) (status.writes_of f.faults.read f.faults.master new.status of (sink.faults old.master) (sink.faults f.world.master) noted);
+      still_open = λ still. subst (λ l. AllStayOpen l.items) (sym rings_are) (leaves.still_open (status.no_rise (outside.read_faults old.media) (outside.read_faults f.world.media) f.faults.read counted
+          (record { same = sym media_is ∙ still.same; short = still.short })));
       played = record {
         only = λ some. status.played_status f.faults.read f.faults.master new.status of;
         done = λ done. subst IsSome (sym journal_is) refl;
@@ -228,10 +214,7 @@ module _ {M I C W O : Type 0} (outside : MediaOutside M) (sink : SinkOutside W) 
       only_reads = record { files = ap (λ (w : World M I C W O). outside.files w.media) world_is ∙ only.files; other_count = ap (λ (w : World M I C W O). outside.write_faults w.media) world_is ∙ only.other_count };
       rest = subst (KeepsTheRest old) (sym world_is) rest;
     } where
-      by : (new.status ≡ Done) ⊎ ((new.status ≡ MasterFault) ⊎ (new.status ≡ ReadFault)) → EndsWith plan new.status
+      by : (new.status ≡ Done) ⊎ ((new.status ≡ MasterFault) ⊎ (new.status ≡ ReadFault)) → EndsWith MasterFault plan new.status
       by (inl done) = inl done
       by (inr (inl fault)) = inr (inl fault)
       by (inr (inr fault)) = inr (inr (inl fault))
-
-    pub not_usage : new.status ≡ Usage → ⊥
-    not_usage is = status.at_end_no_usage f.faults.read f.faults.master new.status (status_is ∙ ap status_at_end leaves.noted) is

@@ -3,14 +3,13 @@ use Rattle.std.proofs.Common.{◌≡◌, ℕ, ◌<◌, ◌≤◌, List, length, 
 use Rattle.std.specs.Prelude.{slice_get, Some, None}
 use Rattle.std.proofs.lemmas.Option.{slice_get_cases, slice_get_past}
 use mathlib.Core.Path.{fun_ext}
-use Rattle.sound_model.specs.Regions.{Sounds}
 use Rattle.session_model.specs.declared.session.Session.{Session}
 use Rattle.session_model.specs.declared.session.SourceDecl.{SourceDecl}
 use Rattle.ses_io.specs.Files.{Files}
 use Rattle.audio_source.specs.Opened.{OpenedSource, IsOpened}
 use Rattle.audio_source.specs.Told.{sample_by, source_sound}
 use Rattle.audio_source.proofs.FrameLaws.{frames_are_the_files}
-use Rattle.session_run.specs.Headline.{sample_in, sounds_in}
+use Rattle.session_run.specs.Exported.{sample_in, sounds_in}
 
 pub sounds_are : (files : Files) (s : Session) (opened : List OpenedSource) → IsOpened files s.rate s.sources.items opened → source_sound files opened ≡ sounds_in files s
 sounds_are files s opened is = fun_ext (λ n. fun_ext (λ i. fun_ext (λ c. by n i c (slice_get_cases s.sources.items n).1))) where

@@ -1,22 +1,21 @@
 -- Statuses and the counts that they are tied to.
-use Rattle.std.proofs.Common.{◌≡◌, ℕ, ◌<◌, ◌≤◌, ◌⊎◌, inl, inr, refl, sym, ap, subst, ◌∙◌, arith}
-use Rattle.std.specs.Prelude.{Bool, true, false, if◌then◌else◌, Option, Some, None, IsSome, IsOk, Result, Ok, Err}
+use Rattle.std.proofs.Common.{◌≡◌, ℕ, ◌<◌, ◌⊎◌, ◌↔◌, inl, inr, refl, sym, ap, subst, ◌∙◌, arith}
+use Rattle.std.specs.Prelude.{Bool, true, false, Option, Some, None, IsOk, Ok, Err}
 use Rattle.std.proofs.lemmas.Bool.{true≢false}
-use Rattle.ses_io.specs.Faults.{risen}
 use Rattle.ses_io.specs.Outside.{MediaOutside}
 use Rattle.cycle_journal.specs.declared.status.Status.{Status}
-use Rattle.cycle_journal.specs.declared.status.Status.TheVariants.{Done, Usage, MasterFault, NoMemory}
+use Rattle.cycle_journal.specs.declared.status.Status.TheVariants.{Done, Usage, MasterFault, OutFault, NoMemory}
 use Rattle.cycle_journal.specs.declared.status.Status.TheVariants as status
-use Rattle.audio_source.specs.Refusals.{why_of}
 use Rattle.engine_core.specs.RunInvariant.{only_noted}
 use Rattle.engine_core.specs.Serial.{IsCounted}
-use Rattle.session_opening.specs.Answers.{Caused, Refuses}
-use Rattle.session_opening.specs.Plan.{Open, Plan, Wrong}
+use Rattle.session_opening.specs.Answers.{Caused, Refuses, unopened as opening}
+use Rattle.session_opening.specs.Plan.{Open}
+use Rattle.session_opening.specs.Words.{Command, ToExport, ToMigrate}
 use Rattle.session_opening.specs.declared.unopened.Unopened.{Unopened}
 use Rattle.session_opening.specs.declared.unopened.Unopened.TheVariants.{Session, NotBuilt, Source, ReadFault}
 use Rattle.session_opening.specs.declared.unopened.Unopened.TheVariants as unopened
-use Rattle.session_run.specs.Headline.{IsStill}
-use Rattle.session_run.specs.Status.{EndsWith, ReadsFailed, WritesFailed, status_at_end, status_of}
+use Rattle.session_run.specs.Exported.{IsStill}
+use Rattle.session_run.specs.Status.{EndsWith, IsOfExport, IsOfMigrate, IsStatusOf, ReadsFailed, WritesFailed, status_at_end, status_of}
 
 -- what stood still didn't rise
 pub no_rise : (before now : ℕ) (rose : Bool) → IsCounted before now rose → IsStill before now → rose ≡ false
@@ -28,16 +27,16 @@ pub some_rise : (before now : ℕ) (rose : Bool) → IsCounted before now rose �
 some_rise before now true counted more = refl
 some_rise before now false counted more = absurd (omega (arith, counted.kept refl, more))
 
--- ---- an export that isn't played
+-- ---- one that stops at what is wrong
 
-pub unplayed_ends : (plan : Open Plan) (why : Unopened) → Refuses plan why → EndsWith plan (status_of why)
-unplayed_ends plan (Session refusal) is = subst (λ p. EndsWith p (status.Session refusal)) (sym is) (inl refl)
-unplayed_ends plan NotBuilt is = subst (λ p. EndsWith p status.NotBuilt) (sym is) (inl refl)
-unplayed_ends plan (Source name why) is = subst (λ p. EndsWith p (status.SourceFile name why)) (sym is) (inl (why, refl, refl))
-unplayed_ends (Ok o) ReadFault is = inr (inr (inl refl))
-unplayed_ends (Err w) ReadFault is = inr (inl refl)
-unplayed_ends (Ok o) unopened.NoMemory is = inr (inr (inr refl))
-unplayed_ends (Err w) unopened.NoMemory is = inr (inr refl)
+pub unplayed_ends : {A : Type 0} (fault : Status) (given : Open A) (why : Unopened) → Refuses given why → EndsWith fault given (status_of why)
+unplayed_ends fault given (Session refusal) is = subst (λ p. EndsWith fault p (status.Session refusal)) (sym is) (inl refl)
+unplayed_ends fault given NotBuilt is = subst (λ p. EndsWith fault p status.NotBuilt) (sym is) (inl refl)
+unplayed_ends fault given (Source name why) is = subst (λ p. EndsWith fault p (status.SourceFile name why)) (sym is) (inl (why, refl, refl))
+unplayed_ends fault (Ok o) ReadFault is = inr (inr (inl refl))
+unplayed_ends fault (Err w) ReadFault is = inr (inl refl)
+unplayed_ends fault (Ok o) unopened.NoMemory is = inr (inr (inr refl))
+unplayed_ends fault (Err w) unopened.NoMemory is = inr (inr refl)
 
 pub quiet : (before now : ℕ) (s : Status) → now ≡ before → (s ≡ status.ReadFault → ⊥) → ReadsFailed before now s
 quiet before now s same not = record { later = λ _. omega (arith, same); cause = λ is. absurd (not is); same = λ _ _. same }
@@ -52,32 +51,55 @@ module _ {V : Type 0} (outside : MediaOutside V) (old new : V) where
     other is = cc
   unplayed_reads unopened.NoMemory cause = quiet (outside.read_faults old) (outside.read_faults new) NoMemory cause (λ is. cc)
 
-pub not_usage : (why : Unopened) → status_of why ≡ Usage → ⊥
-not_usage (Session refusal) is = cc
-not_usage NotBuilt is = cc
-not_usage (Source name why) is = cc
-not_usage ReadFault is = cc
-not_usage unopened.NoMemory is = cc
+-- whether a status says what is wrong, or that a read failed or memory ran out
+abbrev is_reason : Status → Bool
+is_reason (status.Session refusal) = true
+is_reason status.NotBuilt = true
+is_reason (status.SourceFile name why) = true
+is_reason status.ReadFault = true
+is_reason NoMemory = true
+is_reason _ = false
 
-not_played : (why : Unopened) (s : Status) → s ≡ Done ⊎ (s ≡ MasterFault) → status_of why ≡ s → ⊥
-not_played (Session refusal) s (inl done) is = cc
-not_played (Session refusal) s (inr fault) is = cc
-not_played NotBuilt s (inl done) is = cc
-not_played NotBuilt s (inr fault) is = cc
-not_played (Source name why) s (inl done) is = cc
-not_played (Source name why) s (inr fault) is = cc
-not_played ReadFault s (inl done) is = cc
-not_played ReadFault s (inr fault) is = cc
-not_played unopened.NoMemory s (inl done) is = cc
-not_played unopened.NoMemory s (inr fault) is = cc
+reason_of : (why : Unopened) → is_reason (status_of why) ≡ true
+reason_of (Session refusal) = refl
+reason_of NotBuilt = refl
+reason_of (Source name why) = refl
+reason_of ReadFault = refl
+reason_of unopened.NoMemory = refl
 
-pub not_done : (why : Unopened) → status_of why ≡ Done → ⊥
-not_done why is = not_played why Done (inl refl) is
+-- no other status is of a reason
+pub not_of : (why : Unopened) (s : Status) → is_reason s ≡ false → status_of why ≡ s → ⊥
+not_of why s other is = true≢false (sym (reason_of why) ∙ ap is_reason is ∙ other)
 
-pub not_master : (why : Unopened) → status_of why ≡ MasterFault → ⊥
-not_master why is = not_played why MasterFault (inr refl) is
+-- an export neither writes to out nor ends as no command does
+pub export_not_out : (s : Status) → IsOfExport s → s ≡ OutFault → ⊥
+export_not_out s (inl done) is = cc
+export_not_out s (inr (inl fault)) is = cc
+export_not_out s (inr (inr (why, by))) is = not_of why OutFault refl (sym by ∙ is)
 
--- ---- one that is
+pub export_not_usage : (s : Status) → IsOfExport s → s ≡ Usage → ⊥
+export_not_usage s (inl done) is = cc
+export_not_usage s (inr (inl fault)) is = cc
+export_not_usage s (inr (inr (why, by))) is = not_of why Usage refl (sym by ∙ is)
+
+-- and a migrate doesn't write to the master
+pub migrate_not_master : (s : Status) → IsOfMigrate s → s ≡ MasterFault → ⊥
+migrate_not_master s (inl done) is = cc
+migrate_not_master s (inr (inl fault)) is = cc
+migrate_not_master s (inr (inr (why, by))) is = not_of (opening why) MasterFault refl (sym by ∙ is)
+
+pub migrate_not_usage : (s : Status) → IsOfMigrate s → s ≡ Usage → ⊥
+migrate_not_usage s (inl done) is = cc
+migrate_not_usage s (inr (inl fault)) is = cc
+migrate_not_usage s (inr (inr (why, by))) is = not_of (opening why) Usage refl (sym by ∙ is)
+
+-- only no command ends so
+pub usage_only : (asked : Option Command) (s : Status) → IsStatusOf asked s → (s ≡ Usage) ↔ (asked ≡ None)
+usage_only (Some (ToExport e)) s is = (λ usage. absurd (export_not_usage s is usage), λ none. absurd cc)
+usage_only (Some (ToMigrate name)) s is = (λ usage. absurd (migrate_not_usage s is usage), λ none. absurd cc)
+usage_only None s is = (λ usage. refl, λ none. is)
+
+-- ---- an export that is played
 
 -- what is noted of reads and of the master says which status it is
 pub record IsOf (read master : Bool) (s : Status) : Type 0 where
@@ -113,28 +135,19 @@ module _ (read master : Bool) (s : Status) (of : IsOf read master s) where
     by true false o counted = record { later = λ _. counted.later; cause = λ _. counted.raised refl; same = λ not _. absurd (not (o.read_failed refl refl)) }
     by false false o counted = record { later = λ _. counted.later; cause = λ is. absurd (let fine = o.fine refl refl in cc); same = λ _ _. counted.kept refl }
 
-  pub writes_of : (before now : ℕ) → IsCounted before now master → WritesFailed before now s
+  pub writes_of : (before now : ℕ) → IsCounted before now master → WritesFailed MasterFault before now s
   writes_of before now = by read master of where
-    by : (r m : Bool) → IsOf r m s → IsCounted before now m → WritesFailed before now s
+    by : (r m : Bool) → IsOf r m s → IsCounted before now m → WritesFailed MasterFault before now s
     by r true o counted = record { cause = λ _. counted.raised refl; same = λ not. absurd (not (o.master_failed refl)) }
     by true false o counted = record { cause = λ is. absurd (let fault = o.read_failed refl refl in cc); same = λ _. counted.kept refl }
     by false false o counted = record { cause = λ is. absurd (let fine = o.fine refl refl in cc); same = λ _. counted.kept refl }
 
 -- ---- completeness
 
-pub completes : (plan : Result Plan Wrong) (s : Status) (a b c d : ℕ) → EndsWith plan s → IsOk plan → IsStill a b → IsStill c d → ReadsFailed a b s → WritesFailed c d s → (s ≡ Done) ⊎ (s ≡ NoMemory)
-completes (Ok o) s a b c d (inl done) ok reads writes rf wf = inl done
-completes (Ok o) s a b c d (inr (inl fault)) ok reads writes rf wf = absurd (omega (arith, wf.cause fault, writes.same, writes.short))
-completes (Ok o) s a b c d (inr (inr (inl fault))) ok reads writes rf wf = absurd (omega (arith, rf.cause fault, reads.same, reads.short))
-completes (Ok o) s a b c d (inr (inr (inr none))) ok reads writes rf wf = inr none
-completes (Err w) s a b c d ends ok reads writes rf wf = absurd (true≢false (sym ok))
-
--- ---- the words were a command
-
-not_usage_of : (s : Status) → (s ≡ Done) ⊎ ((s ≡ MasterFault) ⊎ (s ≡ status.ReadFault)) → s ≡ Usage → ⊥
-not_usage_of s (inl done) is = cc
-not_usage_of s (inr (inl fault)) is = cc
-not_usage_of s (inr (inr fault)) is = cc
-
-pub at_end_no_usage : (read master : Bool) (s : Status) → s ≡ status_at_end (only_noted read master) → s ≡ Usage → ⊥
-at_end_no_usage read master s is usage = not_usage_of s (played_status read master s (subst (IsOf read master) (sym is) (of_noted read master))) usage
+pub completes : {A : Type 0} (fault : Status) (given : Open A) (s : Status) (a b c d : ℕ) → EndsWith fault given s → IsOk given → IsStill a b → IsStill c d → ReadsFailed a b s → WritesFailed fault c d s →
+    (s ≡ Done) ⊎ (s ≡ NoMemory)
+completes fault (Ok o) s a b c d (inl done) ok reads writes rf wf = inl done
+completes fault (Ok o) s a b c d (inr (inl failed)) ok reads writes rf wf = absurd (omega (arith, wf.cause failed, writes.same, writes.short))
+completes fault (Ok o) s a b c d (inr (inr (inl failed))) ok reads writes rf wf = absurd (omega (arith, rf.cause failed, reads.same, reads.short))
+completes fault (Ok o) s a b c d (inr (inr (inr none))) ok reads writes rf wf = inr none
+completes fault (Err w) s a b c d ends ok reads writes rf wf = absurd (true≢false (sym ok))

@@ -1,131 +1,113 @@
--- What is so of an export that was played, from the bytes of its files to those of its master.
-use Rattle.std.specs.Prelude.{◌≡◌, ℕ, ◌-◌, ◌^◌, ◌<◌, ◌≤◌, ◌⊎◌, ℤ, pos, true, List, [], ◌++◌, length, map, Option, Some, None, Result, Ok, Err, IsOk, slice_get}
+-- What a run does that was asked for a command, or for none.
+use Rattle.std.specs.Prelude.{◌≡◌, ◌⊎◌, List, ℕ, Option, Some, None, IfSome, IsOk}
 use Rattle.std.specs.Borrow.{Bor}
-use Rattle.sound_model.specs.Regions.{Sounds}
-use Rattle.sound_model.specs.Wav.{file_sound}
-use Rattle.ses_io.specs.Files.{Files, content}
-use Rattle.ses_io.specs.FixedList.{Listed}
-use Rattle.ses_io.specs.Outside.{MediaOutside, SinkOutside}
+use Rattle.ses_io.specs.Outside.{MediaOutside, SinkOutside, OnlyReads}
 use Rattle.ses_io.specs.declared.world.World.{World}
-use Rattle.session_model.specs.declared.session.Session.{Session}
-use Rattle.session_model.specs.declared.session.SourceDecl.{SourceDecl}
-use Rattle.session_model.specs.declared.edit.Edit.{Edit}
-use Rattle.engine_model.specs.Fits.{is_lawful}
-use Rattle.engine_model.specs.Journal as engine
-use Rattle.engine_model.specs.Plain.{accepted, export_commands, plain}
-use Rattle.engine_model.specs.PlainSession.{is_plain}
-use Rattle.engine_model.specs.Played.{master_file, samples_of}
-use Rattle.cycle_journal.specs.declared.entry.Entry.{Entry}
-use Rattle.cycle_journal.specs.declared.status.Status.{Status}
-use Rattle.cycle_journal.specs.declared.status.Status.TheVariants.{Done, NoMemory}
+use Rattle.cycle_journal.specs.declared.status.Status.TheVariants.{Done, Usage, MasterFault, OutFault, NoMemory}
 use Rattle.cycle_journal.specs.JournalView.{seen_entries}
-use Rattle.engine_core.specs.Passed.{PassedOn, AllGenuine, AllStayOpen}
-use Rattle.engine_core.specs.Written.{IsCutOff}
-use Rattle.session_opening.specs.Plan.{Plan, Wrong, plan_of}
-use Rattle.session_opening.specs.Words.{Export, command}
+use Rattle.engine_core.specs.Passed.{AllStayOpen}
+use Rattle.session_opening.specs.Plan.{plan_of_export, read_session}
+use Rattle.session_opening.specs.Spoken.{texts}
+use Rattle.session_opening.specs.Words.{Command, ToExport, ToMigrate, command}
 use Rattle.session_run.specs.declared.outcome.Outcome.{Outcome}
-use Rattle.session_run.specs.Status.{EndsWith, ReadsFailed, WritesFailed}
+use Rattle.session_run.specs.Exported.{IsStill, WherePlayed, IsExport, IsOfSome}
+use Rattle.session_run.specs.Migrated.{IsMigrated}
+use Rattle.session_run.specs.Status.{EndsWith, IsStatusOf, PlaysAsAsked, ReadsFailed, WritesFailed}
 
--- a count of faults is what it was, and it didn't stand still at its end
-pub record IsStill (before now : ℕ) : Type 0 where
-  pub same : now ≡ before
-  pub short : before < 2 ^ 64 - 1
+-- the command that the words are
+abbrev pub asked_by : List (Bor (List ℕ)) → Option Command
+asked_by words = command (texts words)
 
--- the bytes of the words
-abbrev pub texts : List (Bor (List ℕ)) → List (List ℕ)
-texts words = map (λ w. w.now) words
+-- no export was asked for
+abbrev pub IsNoExport : Option Command → Type 0
+IsNoExport (Some (ToExport e)) = ⊥
+IsNoExport (Some (ToMigrate name)) = Unit {0}
+IsNoExport None = Unit {0}
 
--- ---- what is meant
-
--- the accepted edits of an export: a locate and a roll
-abbrev pub edits_of : Plan → List Edit
-edits_of p = accepted p.session p.cycles (export_commands p.from)
-
--- the sample of frame i and channel c of a source's file; there is none where there is no source
-abbrev pub sample_in : Files → Option SourceDecl → ℕ → ℕ → ℤ
-sample_in files None i c = pos 0
-sample_in files (Some d) i c = file_sound (content files d.file) i c
-
--- the sounds of a session's sources, as their files hold them
-abbrev pub sounds_in : Files → Session → Sounds
-sounds_in files s n i c = sample_in files (slice_get s.sources.items n) i c
-
--- **the master of an export**: header, the blocks of its entries, and silence for the cycles that weren't made
-abbrev pub exported : Files → Plan → List engine.Entry → List ℕ
-exported files p journal = master_file p.session (edits_of p) (samples_of (sounds_in files p.session) p.session (edits_of p)) p.cycles journal
-
--- where something was played there was a plan; then of this plan, and of the entries
-abbrev pub WherePlayed : Result Plan Wrong → Option (Listed Entry) → (Plan → List engine.Entry → Type 0) → Type 0
-WherePlayed (Ok p) (Some journal) P = P p (seen_entries journal.items)
-WherePlayed (Ok p) None P = Unit {0}
-WherePlayed (Err wrong) (Some journal) P = ⊥
-WherePlayed (Err wrong) None P = Unit {0}
-
--- where something was played the words were a command
-abbrev pub WhereAsked : Option Export → Option (Listed Entry) → (Export → List engine.Entry → Type 0) → Type 0
-WhereAsked (Some e) (Some journal) P = P e (seen_entries journal.items)
-WhereAsked None (Some journal) P = ⊥
-WhereAsked (Some e) None P = Unit {0}
-WhereAsked None None P = Unit {0}
+-- no migrate was asked for
+abbrev pub IsNoMigrate : Option Command → Type 0
+IsNoMigrate (Some (ToExport e)) = Unit {0}
+IsNoMigrate (Some (ToMigrate name)) = ⊥
+IsNoMigrate None = Unit {0}
 
 module _ {M I C W O : Type 0} where
-  -- ---- an export that was played
+  -- ---- what is played and written
 
-  -- What is so of every run by a plan, whatever the media tells.
-  pub record IsRun (master : SinkOutside W) (old : World M I C W O) (new : Outcome M I C W O) (p : Plan) (journal : List engine.Entry) : Type 0 where
-    -- editions never go back, and nothing older is heard than what is settled
-    pub lawful : is_lawful p.session (edits_of p) journal ≡ true
-    -- there is an entry for each cycle, fewer only where the master's count of faults rose
-    pub most : length journal ≤ p.cycles
-    pub all : IsStill (master.faults old.master) (master.faults new.world.master) → length journal ≡ p.cycles
-    -- the rings of each track are ordered, and what the journal says of them is true
-    pub rings : PassedOn p.session (edits_of p) journal new.rings.items
-    -- at Done each cycle rolls, hears the newest playlists, and is settled
-    pub plainly : new.status ≡ Done → journal ≡ plain p.session p.cycles (export_commands p.from)
-
-  -- An export that was played, of a media that tells its files.
-  pub record IsExport (media : MediaOutside M) (master : SinkOutside W) (old : World M I C W O) (new : Outcome M I C W O) (p : Plan) (journal : List engine.Entry) : Type 0 where
-    pub run : IsRun master old new p journal
-    -- each piece that was sent is genuine
-    pub genuine : AllGenuine (sounds_in (media.files old.media) p.session) p.session (edits_of p) new.rings.items
-    -- the master got the export, where its count of faults didn't rise
-    pub written : master.tells → IsStill (master.faults old.master) (master.faults new.world.master) →
-        master.held new.world.master ≡ master.held old.master ++ exported (media.files old.media) p journal
-    -- and where it rose, what it got is cut off
-    pub cut_off : master.tells → master.faults old.master < master.faults new.world.master →
-        IsCutOff (master.held old.master) (master.held new.world.master) p.session (edits_of p) (samples_of (sounds_in (media.files old.media) p.session) p.session (edits_of p)) p.cycles journal
-
-  -- What was played is the export that the words ask for, of some plain session.
-  pub record IsOfSome (master : SinkOutside W) (old : World M I C W O) (new : Outcome M I C W O) (e : Export) (journal : List engine.Entry) : Type 0 where
-    pub session : Session
-    pub is_plain : is_plain session ≡ true
-    pub run : IsRun master old new (record { session = session; from = e.from; cycles = e.cycles }) journal
-
-  -- what was played is the export that the words and the files make
-  abbrev pub PlaysTheExport : MediaOutside M → SinkOutside W → World M I C W O → List (List ℕ) → Outcome M I C W O → Type 0
-  PlaysTheExport media master old words new = WherePlayed (plan_of (media.files old.media) words) new.journal (IsExport media master old new)
+  -- what was played is the export that the words and the files make; no other command plays
+  abbrev pub PlaysTheExport : MediaOutside M → SinkOutside W → World M I C W O → Option Command → Outcome M I C W O → Type 0
+  PlaysTheExport media master old (Some (ToExport e)) new = WherePlayed (plan_of_export (media.files old.media) e) new.journal (IsExport media master old new)
+  PlaysTheExport media master old (Some (ToMigrate name)) new = new.journal ≡ None
+  PlaysTheExport media master old None new = new.journal ≡ None
 
   -- it is the export that the words ask for, also where the media tells nothing
-  abbrev pub PlaysAnExport : SinkOutside W → World M I C W O → List (List ℕ) → Outcome M I C W O → Type 0
-  PlaysAnExport master old words new = WhereAsked (command words) new.journal (IsOfSome master old new)
+  abbrev pub PlaysAnExport : SinkOutside W → World M I C W O → Option Command → Outcome M I C W O → Type 0
+  PlaysAnExport master old (Some (ToExport e)) new = IfSome new.journal (λ j. IsOfSome master old new e (seen_entries j.items))
+  PlaysAnExport master old (Some (ToMigrate name)) new = new.journal ≡ None
+  PlaysAnExport master old None new = new.journal ≡ None
+
+  -- only a migrate writes to out
+  abbrev pub Migrates : MediaOutside M → SinkOutside O → World M I C W O → Option Command → Outcome M I C W O → Type 0
+  Migrates media out old (Some (ToMigrate name)) new = IsMigrated media out name old.media old.out new.world.out new.status
+  Migrates media out old (Some (ToExport e)) new = new.world.out ≡ old.out
+  Migrates media out old None new = new.world.out ≡ old.out
 
   -- ---- statuses, faults and their causes
 
   -- the status is the one that the words and the files determine
-  abbrev pub EndsAsPlanned : MediaOutside M → World M I C W O → List (List ℕ) → Outcome M I C W O → Type 0
-  EndsAsPlanned media old words new = EndsWith (plan_of (media.files old.media) words) new.status
+  abbrev pub EndsAsAsked : MediaOutside M → World M I C W O → Option Command → Outcome M I C W O → Type 0
+  EndsAsAsked media old (Some (ToExport e)) new = EndsWith MasterFault (plan_of_export (media.files old.media) e) new.status
+  EndsAsAsked media old (Some (ToMigrate name)) new = EndsWith OutFault (read_session (media.files old.media name)) new.status
+  EndsAsAsked media old None new = new.status ≡ Usage
 
   -- Each fault that is answered has its cause.
-  pub record HasCauses (media : MediaOutside M) (master : SinkOutside W) (old : World M I C W O) (new : Outcome M I C W O) : Type 0 where
+  pub record HasCauses (media : MediaOutside M) (master : SinkOutside W) (out : SinkOutside O) (old : World M I C W O) (new : Outcome M I C W O) : Type 0 where
     -- a failed read of the media
     pub reads : ReadsFailed (media.read_faults old.media) (media.read_faults new.world.media) new.status
     -- a failed write of the master
-    pub writes : WritesFailed (master.faults old.master) (master.faults new.world.master) new.status
+    pub writes : WritesFailed MasterFault (master.faults old.master) (master.faults new.world.master) new.status
+    -- a failed write of out
+    pub replies : WritesFailed OutFault (out.faults old.out) (out.faults new.world.out) new.status
     -- a ring of items is closed only where a read failed
     pub still_open : IsStill (media.read_faults old.media) (media.read_faults new.world.media) → AllStayOpen new.rings.items
 
-  -- where nothing is wrong and nothing fails, only want of memory keeps an export from Done
-  abbrev pub IsComplete : MediaOutside M → SinkOutside W → World M I C W O → List (List ℕ) → Outcome M I C W O → Type 0
-  IsComplete media master old words new = IsOk (plan_of (media.files old.media) words) →
-      IsStill (media.read_faults old.media) (media.read_faults new.world.media) → IsStill (master.faults old.master) (master.faults new.world.master) →
-      (new.status ≡ Done) ⊎ (new.status ≡ NoMemory)
+  -- only want of memory keeps it from Done
+  abbrev pub IsDoneButForMemory : Outcome M I C W O → Type 0
+  IsDoneButForMemory new = (new.status ≡ Done) ⊎ (new.status ≡ NoMemory)
+
+  -- where nothing is wrong, and no count rises of what the command reads and writes, only want of memory keeps it from Done
+  abbrev pub IsComplete : MediaOutside M → SinkOutside W → SinkOutside O → World M I C W O → Option Command → Outcome M I C W O → Type 0
+  IsComplete media master out old (Some (ToExport e)) new = IsOk (plan_of_export (media.files old.media) e) →
+      IsStill (media.read_faults old.media) (media.read_faults new.world.media) → IsStill (master.faults old.master) (master.faults new.world.master) → IsDoneButForMemory new
+  IsComplete media master out old (Some (ToMigrate name)) new = IsOk (read_session (media.files old.media name)) →
+      IsStill (media.read_faults old.media) (media.read_faults new.world.media) → IsStill (out.faults old.out) (out.faults new.world.out) → IsDoneButForMemory new
+  IsComplete media master out old None new = Unit {0}
+
+  -- ---- what is left alone
+
+  -- What a run leaves as it was.
+  pub record LeavesTheRest (media : MediaOutside M) (old : World M I C W O) (asked : Option Command) (new : World M I C W O) : Type 0 where
+    -- the files, and the count of failed writes of them
+    pub files : OnlyReads media old.media new.media
+    pub input : new.input ≡ old.input
+    pub control : new.control ≡ old.control
+    -- only an export writes to the master, and only a migrate to out
+    pub master : IsNoExport asked → new.master ≡ old.master
+    pub out : IsNoMigrate asked → new.out ≡ old.out
+
+  -- What every run does that was asked for this.
+  pub record Does (media : MediaOutside M) (master : SinkOutside W) (out : SinkOutside O) (old : World M I C W O) (asked : Option Command) (new : Outcome M I C W O) : Type 0 where
+    -- it ends with the status that words and files determine, and else with one of the command's
+    pub ends : media.tells → EndsAsAsked media old asked new
+    pub status : IsStatusOf asked new.status
+    -- what an export plays
+    pub export : media.tells → PlaysTheExport media master old asked new
+    pub alone : PlaysAnExport master old asked new
+    -- what a migrate writes
+    pub migrate : Migrates media out old asked new
+    -- why it isn't Done
+    pub complete : media.tells → IsComplete media master out old asked new
+    pub causes : HasCauses media master out old new
+    -- whether there are journal and rings
+    pub played : PlaysAsAsked old asked new
+    -- and what it leaves alone
+    pub rest : LeavesTheRest media old asked new.world

@@ -1,5 +1,5 @@
 -- The status of a run: which one the words and the files determine, and what ties each fault to its count.
-use Rattle.std.specs.Prelude.{◌≡◌, ◌≢◌, ℕ, ◌≤◌, ◌⊎◌, if◌then◌else◌, [], None, IsSome, IfSome, Result, Ok, Err}
+use Rattle.std.specs.Prelude.{◌≡◌, ◌≢◌, ℕ, ◌≤◌, ◌⊎◌, if◌then◌else◌, [], Option, Some, None, IsSome, IfSome, Ok, Err}
 use Rattle.ses_io.specs.Faults.{risen}
 use Rattle.ses_io.specs.declared.world.World.{World}
 use Rattle.disk_ring.specs.Rings.{Whole}
@@ -8,26 +8,28 @@ use Rattle.audio_source.specs.Refusals.{why_of}
 use Rattle.cycle_journal.specs.declared.status.Status.{Status}
 use Rattle.cycle_journal.specs.declared.status.Status.TheVariants.{Done, Usage, Session, SourceFile, ReadFault, WriteFault, InputFault, MasterFault, ControlFault, OutFault, NoMemory, ControlTooLong, NotBuilt}
 use Rattle.process_cycle.specs.declared.finished.Faults.{Faults}
+use Rattle.session_opening.specs.declared.no_session.NoSession.{NoSession}
 use Rattle.session_opening.specs.declared.unopened.Unopened.{Unopened}
 use Rattle.session_opening.specs.declared.unopened.Unopened.TheVariants as unopened
+use Rattle.session_opening.specs.Answers as answers
 use Rattle.session_opening.specs.Plan as plan
-use Rattle.session_opening.specs.Plan.{Plan, Wrong}
+use Rattle.session_opening.specs.Plan.{Open, Wrong}
+use Rattle.session_opening.specs.Words.{Command, ToExport, ToMigrate}
 use Rattle.session_run.specs.declared.outcome.Outcome.{Outcome}
 
 -- ---- by the words and the files
 
 -- the status that says what is wrong
 abbrev pub Says : Wrong → Status → Type 0
-Says plan.NoCommand s = s ≡ Usage
 Says (plan.SessionRefused refusal) s = s ≡ Session refusal
 Says plan.NotBuilt s = s ≡ NotBuilt
 Says (plan.SourceRefused name why) s = (refusal : FileRefusal) × (s ≡ SourceFile name refusal) × (why_of refusal ≡ why)
 
--- Where something is wrong the status says so. Else it is Done, or a write of the master or a read of the media failed. A failed
--- read, and want of memory, may come in place of each.
-abbrev pub EndsWith : Result Plan Wrong → Status → Type 0
-EndsWith (Ok o) s = (s ≡ Done) ⊎ ((s ≡ MasterFault) ⊎ ((s ≡ ReadFault) ⊎ (s ≡ NoMemory)))
-EndsWith (Err wrong) s = Says wrong s ⊎ ((s ≡ ReadFault) ⊎ (s ≡ NoMemory))
+-- Where something is wrong the status says so. Else it is Done, or a write of what is written failed, which is this fault, or a read
+-- of the media did. A failed read, and want of memory, may come in place of each.
+abbrev pub EndsWith : {A : Type 0} → Status → Open A → Status → Type 0
+EndsWith fault (Ok o) s = (s ≡ Done) ⊎ ((s ≡ fault) ⊎ ((s ≡ ReadFault) ⊎ (s ≡ NoMemory)))
+EndsWith fault (Err wrong) s = Says wrong s ⊎ ((s ≡ ReadFault) ⊎ (s ≡ NoMemory))
 
 -- ---- by what failed
 
@@ -40,7 +42,17 @@ status_of unopened.NoMemory = NoMemory
 
 -- a status that an export may end with, whatever the media tells
 abbrev pub IsOfExport : Status → Type 0
-IsOfExport s = (s ≡ Done) ⊎ ((s ≡ Usage) ⊎ ((s ≡ MasterFault) ⊎ ((why : Unopened) × (s ≡ status_of why))))
+IsOfExport s = (s ≡ Done) ⊎ ((s ≡ MasterFault) ⊎ ((why : Unopened) × (s ≡ status_of why)))
+
+-- the same of a migrate: it opens no source, and takes each form of session
+abbrev pub IsOfMigrate : Status → Type 0
+IsOfMigrate s = (s ≡ Done) ⊎ ((s ≡ OutFault) ⊎ ((why : NoSession) × (s ≡ status_of (answers.unopened why))))
+
+-- the same of what was asked for, which may be no command
+abbrev pub IsStatusOf : Option Command → Status → Type 0
+IsStatusOf (Some (ToExport e)) s = IsOfExport s
+IsStatusOf (Some (ToMigrate name)) s = IsOfMigrate s
+IsStatusOf None s = s ≡ Usage
 
 -- of several faults the first in this order
 abbrev pub status_at_end : Faults → Status
@@ -56,14 +68,14 @@ pub record ReadsFailed (before now : ℕ) (s : Status) : Type 0 where
   -- at every other status it is as it was
   pub same : s ≢ ReadFault → s ≢ MasterFault → now ≡ before
 
--- the master's count of failed writes
-pub record WritesFailed (before now : ℕ) (s : Status) : Type 0 where
-  -- MasterFault comes only where it rose
-  pub cause : s ≡ MasterFault → risen before ≤ now
+-- the count of failed writes of what is written, which are this fault
+pub record WritesFailed (fault : Status) (before now : ℕ) (s : Status) : Type 0 where
+  -- the fault comes only where it rose
+  pub cause : s ≡ fault → risen before ≤ now
   -- at every other status it is as it was
-  pub same : s ≢ MasterFault → now ≡ before
+  pub same : s ≢ fault → now ≡ before
 
--- Whether something was played, and what there is then.
+-- Whether an export was played, and what there is then.
 pub record HasPlayed {M I C W O : Type 0} (old : World M I C W O) (new : Outcome M I C W O) : Type 0 where
   -- only at these statuses
   pub only : IsSome new.journal → (new.status ≡ Done) ⊎ ((new.status ≡ MasterFault) ⊎ (new.status ≡ ReadFault))
@@ -75,3 +87,15 @@ pub record HasPlayed {M I C W O : Type 0} (old : World M I C W O) (new : Outcome
   pub acks : IfSome new.acks Whole
   -- else nothing was written, and there are no rings
   pub nothing : new.journal ≡ None → (new.world.master ≡ old.master) × (new.rings.items ≡ []) × (new.acks ≡ None)
+
+-- Nothing was played.
+pub record HasNotPlayed {M I C W O : Type 0} (new : Outcome M I C W O) : Type 0 where
+  pub journal : new.journal ≡ None
+  pub rings : new.rings.items ≡ []
+  pub acks : new.acks ≡ None
+
+-- only an export is played
+abbrev pub PlaysAsAsked : {M I C W O : Type 0} → World M I C W O → Option Command → Outcome M I C W O → Type 0
+PlaysAsAsked old (Some (ToExport e)) new = HasPlayed old new
+PlaysAsAsked old (Some (ToMigrate name)) new = HasNotPlayed new
+PlaysAsAsked old None new = HasNotPlayed new

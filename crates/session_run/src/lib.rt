@@ -2,6 +2,8 @@
 #![tactic(auto)]
 
 mod ending;
+mod export;
+mod migrate;
 mod outcome;
 mod top;
 

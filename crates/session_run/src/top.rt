@@ -1,17 +1,14 @@
 //! The top call: the words are read, and what they ask for is done with the world.
 ghost use Rattle.std.specs.Prelude.{◌≡◌, ◌↔◌, None};
-ghost use Rattle.ses_io.specs.Outside.{OnlyReads};
-ghost use Rattle.engine_core.specs.Events.{KeepsTheRest};
-ghost use Rattle.session_opening.specs.Words as spec;
-ghost use Rattle.session_run.specs.Status.{HasPlayed, IsOfExport};
-ghost use Rattle.session_run.specs.Headline.{texts, EndsAsPlanned, PlaysTheExport, PlaysAnExport, IsComplete, HasCauses};
+ghost use Rattle.session_run.specs.Status.{IsStatusOf, PlaysAsAsked};
+ghost use Rattle.session_run.specs.Headline.{asked_by, EndsAsAsked, PlaysTheExport, PlaysAnExport, Migrates, IsComplete, HasCauses, LeavesTheRest};
 
-use crate::ending::{status_at_end, status_of};
-use crate::outcome::{Outcome, played, unplayed};
+use crate::export::export;
+use crate::migrate::migrate;
+use crate::outcome::{Outcome, unplayed};
 use cycle_journal::Status;
-use engine_core::{Opened, Script, run_events};
 use ses_io::{Media, Sink, Source, World};
-use session_opening::{Loaded, command, open};
+use session_opening::{Command, command};
 use std::alloc::Global;
 use std::sync::Wait;
 use std::thread::Threads;
@@ -31,37 +28,22 @@ where
     C: Source + Send,
     W: Sink + Send,
     O: Sink + Send,
-    ensures usage { (result.status ≡ Status.Usage) ↔ (spec.command (texts words.now) ≡ None) }
-    ensures ends { M.outside.tells → EndsAsPlanned M.outside world (texts words.now) result }
-    ensures status { IsOfExport result.status }
+    ensures usage { (result.status ≡ Status.Usage) ↔ (asked_by words.now ≡ None) }
+    ensures ends { M.outside.tells → EndsAsAsked M.outside world (asked_by words.now) result }
+    ensures status { IsStatusOf (asked_by words.now) result.status }
     ensures export { M.outside.tells
-        → PlaysTheExport M.outside W.outside world (texts words.now) result }
-    ensures alone { PlaysAnExport W.outside world (texts words.now) result }
+        → PlaysTheExport M.outside W.outside world (asked_by words.now) result }
+    ensures alone { PlaysAnExport W.outside world (asked_by words.now) result }
+    ensures migrate { Migrates M.outside O.outside world (asked_by words.now) result }
     ensures complete { M.outside.tells
-        → IsComplete M.outside W.outside world (texts words.now) result }
-    ensures causes { HasCauses M.outside W.outside world result }
-    ensures played { HasPlayed world result }
-    ensures only_reads { OnlyReads M.outside world.media result.world.media }
-    ensures rest { KeepsTheRest world result.world }
+        → IsComplete M.outside W.outside O.outside world (asked_by words.now) result }
+    ensures causes { HasCauses M.outside W.outside O.outside world result }
+    ensures played { PlaysAsAsked world (asked_by words.now) result }
+    ensures rest { LeavesTheRest M.outside world (asked_by words.now) result.world }
 {
-    let Some(export) = command(words) else {
-        return unplayed(alloc, Status::Usage, world);
-    };
-    let mut world = world;
-    let Loaded { edition, sources } = match open(alloc, &mut world.media, &export) {
-        Ok(loaded) => loaded,
-        Err(why) => return unplayed(alloc, status_of(why), world),
-    };
-    let opened = Opened {
-        world,
-        edition,
-        sources,
-        form: None,
-        cycles: export.cycles,
-        script: Some(Script { from: export.from }),
-    };
-    match run_events(alloc, opened, &[]) {
-        Ok(finished) => played(status_at_end(&finished.faults), finished),
-        Err(world) => unplayed(alloc, Status::NoMemory, world),
+    match command(words) {
+        Some(Command::Export(asked)) => export(alloc, &asked, world),
+        Some(Command::Migrate { session }) => migrate(alloc, session, world),
+        None => unplayed(alloc, Status::Usage, world),
     }
 }

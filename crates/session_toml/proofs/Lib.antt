@@ -9,3 +9,4 @@ pub mod FeedLaws
 pub mod BuiltLaws
 pub mod FormLaws
 pub mod SessionLaws
+pub mod VersionLaws

@@ -9,7 +9,6 @@ use Rattle.std.proofs.lemmas.List.Kept.{AllPairs-cons}
 use Rattle.sound_laws.proofs.Cases.{by_test, or_parts}
 use Rattle.session_model.specs.declared.session.SourceDecl.{SourceDecl}
 use Rattle.session_model.specs.declared.refusal.SessionRefusal.{SessionRefusal}
-use Rattle.session_model.specs.declared.refusal.SessionRefusal.TheVariants.{Twice, SendTwice, NoSource, NoRoute, Channels}
 use Rattle.session_walk.specs.declared.said.RouteText.{RouteText}
 use Rattle.session_walk.specs.declared.said.TrackOwn.{TrackOwn}
 use Rattle.session_walk.proofs.PartRangeLaws.{after}

@@ -16,6 +16,7 @@ use Rattle.session_model.specs.Formed.{IsFormed}
 use Rattle.session_model.specs.Valid.{IsValid}
 use Rattle.session_model.specs.Views as views
 use Rattle.session_walk.specs.declared.fault.SessionFault.{SessionFault}
+use Rattle.session_walk.specs.declared.said.Written.{Written}
 use Rattle.session_walk.specs.Fault.{Gives}
 use Rattle.session_walk.specs.Text.{written}
 use Rattle.session_walk.proofs.PartRangeLaws.{after}
@@ -81,10 +82,16 @@ pub given-valid : (bytes : List ℕ) (s : Session) (result : Result Session Sess
 given-valid bytes s (Ok t) e given = accepted_is_valid bytes t (session-is bytes s e ∙ given)
 given-valid bytes s (Err fault) e given = tt
 
-pub accepted_is_said : AcceptedIsSaid
+-- an accepted session is built of what its text says
+pub accepted-built : (bytes : List ℕ) (s : Session) → session bytes ≡ Ok s → (w : Written) × (written bytes ≡ Ok w) × (s ≡ built w)
 unfolding session laid_out
-accepted_is_said bytes s e = after (laid_out bytes) _ s e (λ t te last. after (written bytes) _ t te (λ w we kept. after (rules_of w) _ t kept (λ u ue made.
+accepted-built bytes s e = after (laid_out bytes) _ s e (λ t te last. after (written bytes) _ t te (λ w we kept. after (rules_of w) _ t kept (λ u ue made.
     let (none, same) = passed t s (on_cycle t) last in
-    let (m, doc, said) = written_is_said bytes w we in
     let is : built w ≡ t = cc in
-    (m, w, doc, said, sym same ∙ sym is))))
+    (w, we, sym same ∙ sym is))))
+
+pub accepted_is_said : AcceptedIsSaid
+accepted_is_said bytes s e =
+    let (w, we, is) = accepted-built bytes s e in
+    let (m, doc, said) = written_is_said bytes w we in
+    (m, w, doc, said, is)

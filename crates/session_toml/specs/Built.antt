@@ -4,6 +4,7 @@ use Rattle.std.specs.List.{position_or_len}
 use Rattle.sound_model.specs.Numbers.{unity}
 use Rattle.sound_model.specs.Regions as sound
 use Rattle.sound_model.specs.Layers.{by_layer}
+use Rattle.ses_units.specs.Shape.{shape_of}
 use Rattle.ses_io.specs.FixedList.{Listed}
 use Rattle.session_model.specs.declared.route.SendLink.{SendLink}
 use Rattle.session_model.specs.declared.route.RouteKind.{RouteKind}
@@ -90,6 +91,8 @@ region_in names r = record {
   opaque = r.opaque;
   fade_in = r.fades.fade_in;
   fade_out = r.fades.fade_out;
+  shape_in = shape_of r.fades.shape_in;
+  shape_out = shape_of r.fades.shape_out;
 }
 
 -- the playlist of regions, by layer

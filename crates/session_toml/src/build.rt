@@ -143,6 +143,8 @@ fn region_in(names: &[Name], text: &RegionText) -> Region
         opaque: text.opaque,
         fade_in: text.fades.fade_in,
         fade_out: text.fades.fade_out,
+        shape_in: text.fades.shape_in,
+        shape_out: text.fades.shape_out,
     }
 }
 

@@ -8,7 +8,7 @@ mod places;
 mod rules;
 mod session;
 
-pub use laws::{accepted_is_said, accepted_is_valid};
+pub use laws::{accepted_is_said, accepted_is_valid, first_version_is_linear};
 pub use session::session_of;
 pub use session_model::{Key, Part, Place, SessionRefusal};
 pub use session_walk::SessionFault;

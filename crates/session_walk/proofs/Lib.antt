@@ -5,3 +5,4 @@ pub mod RangeLaws
 pub mod SaysKeyLaws
 pub mod SaysLaws
 pub mod StopLaws
+pub mod VersionLaws

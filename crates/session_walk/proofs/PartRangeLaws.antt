@@ -1,5 +1,5 @@
 -- Numbers, the session's own part, sources and regions that the walk accepts are in range.
-use Rattle.std.proofs.Common.{◌≡◌, ℕ, ◌+◌, ◌-◌, ◌*◌, ◌^◌, ◌<◌, ◌≤◌, Bool, true, false, ◌&&◌, nat_le, refl, subst, arith, length, Option, Some, None, codes}
+use Rattle.std.proofs.Common.{◌≡◌, ℕ, ◌+◌, ◌-◌, ◌*◌, ◌^◌, ◌<◌, ◌≤◌, Bool, true, false, ◌&&◌, nat_le, refl, subst, arith, Option, Some, None, codes}
 use Rattle.std.specs.Prelude.{ℤ, pos, negsuc, Ok, Err}
 use Rattle.std.specs.Option.{ok_or}
 use Rattle.std.proofs.lemmas.Bool.Decides.{nat_tests}
@@ -7,14 +7,14 @@ use Rattle.sound_laws.proofs.Cases.{by_test}
 use Rattle.toml.specs.Data.{Data}
 use Rattle.session_model.specs.declared.key.Key.{Key}
 use Rattle.session_model.specs.declared.key.Key.TheVariants as key
-use Rattle.session_model.specs.declared.refusal.Part.TheVariants as part
 use Rattle.session_model.specs.declared.refusal.SessionRefusal.{SessionRefusal}
 use Rattle.session_model.specs.declared.session.SourceDecl.{SourceDecl}
 use Rattle.session_walk.specs.declared.said as text
+use Rattle.session_walk.specs.declared.said.Version.{Version}
 use Rattle.session_walk.specs.Section.{Section, Read, ◌>>=◌, holds, only, value_at}
 use Rattle.sound_model.specs.Numbers.{unity}
 use Rattle.session_model.specs.declared.refusal.SessionRefusal.TheVariants.{Range}
-use Rattle.session_walk.specs.Values.{needed, or_default, integer_of, in_range, whole_of, whole, whole_or, gain_or, bits, flag_or, name, name_or, file}
+use Rattle.session_walk.specs.Values.{needed, or_default, integer_of, in_range, whole_of, whole, whole_or, gain_or, bits, version, flag_or, name, name_or, file, shape_or}
 use Rattle.session_walk.specs.Arrays.{each}
 use Rattle.session_walk.specs.Parts.{head_keys, source_keys, region_keys, head_of, source_of, span_of, fades_of, region_of}
 use Rattle.session_walk.specs.InRange.{IsHead, IsSource, IsRegionText}
@@ -76,7 +76,7 @@ le-kept a b x u e = let t = kept (nat_le a b) x u e in grind (arith, nat_tests)
 
 pub head-in : (s : Section) (h : text.Head.Head) → head_of s ≡ Ok h → IsHead h
 unfolding head_of
-head-in s h e = after (only s head_keys) _ h e (λ u0 e0 e. after (whole s key.Version 1 1) _ h e (λ u1 e1 e. after (whole s key.Rate 8000 192000) _ h e (λ rate er e.
+head-in s h e = after (only s head_keys) _ h e (λ u0 e0 e. after (version s key.Version) _ h e (λ v ev e. after (whole s key.Rate 8000 192000) _ h e (λ rate er e.
     after (bits s key.Bits) _ h e (λ b eb e. after (whole s key.Channels 1 2) _ h e (λ channels ec e. after (whole s key.Block 1 4096) _ h e (λ block ek e.
     after (whole s key.Depth 2 256) _ h e (λ depth ed e. after (holds (nat_le (depth * block) 65536) (Range s.place key.Depth)) _ h e (λ u2 ef e.
     after (name_or s key.Takes (codes "take")) _ h e (λ takes et e.
@@ -84,7 +84,7 @@ head-in s h e = after (only s head_keys) _ h e (λ u0 e0 e. after (whole s key.V
     let c = whole-in s key.Channels 1 2 channels ec in
     let k = whole-in s key.Block 1 4096 block ek in
     let d = whole-in s key.Depth 2 256 depth ed in
-    let is : record { rate = rate; bits = b; channels = channels; block = block; depth = depth; takes = takes } ≡ h = cc in
+    let is : record { version = v; rate = rate; bits = b; channels = channels; block = block; depth = depth; takes = takes } ≡ h = cc in
     subst IsHead is (record {
       slowest = r.least;
       fastest = r.most;
@@ -127,15 +127,16 @@ span-in s p e = after (whole_or s key.Start 0 0 1099511627775) _ p e (λ start e
 fades-in : (s : Section) (long : ℕ) (f : text.Fades.Fades) → fades_of s long ≡ Ok f → f.fade_in + f.fade_out ≤ long
 unfolding fades_of
 fades-in s long f e = after (whole_or s key.FadeIn 0 0 long) _ f e (λ a ea e. after (whole_or s key.FadeOut 0 0 (long - a)) _ f e (λ b eb e.
+    after (shape_or s key.ShapeIn) _ f e (λ shape_in ei e. after (shape_or s key.ShapeOut) _ f e (λ shape_out eo e.
     let x = whole_or-in s key.FadeIn 0 0 long a (omega arith) (omega arith) ea in
     let y = whole_or-in s key.FadeOut 0 0 (long - a) b (omega arith) (omega arith) eb in
-    let is : record { fade_in = a; fade_out = b } ≡ f = cc in
+    let is : record { fade_in = a; fade_out = b; shape_in = shape_in; shape_out = shape_out } ≡ f = cc in
     let P : text.Fades.Fades → Type 0 = λ g. g.fade_in + g.fade_out ≤ long in
-    subst P is (omega (arith, x.most, y.most))))
+    subst P is (omega (arith, x.most, y.most))))))
 
-pub region-in : (s : Section) (r : text.RegionText.RegionText) → region_of s ≡ Ok r → IsRegionText r
+pub region-in : (version : Version) (s : Section) (r : text.RegionText.RegionText) → region_of version s ≡ Ok r → IsRegionText r
 unfolding region_of
-region-in s r e = after (only s region_keys) _ r e (λ u0 e0 e. after (whole s key.Id 1 999999) _ r e (λ id ei e. after (name s key.Source) _ r e (λ source en e.
+region-in version s r e = after (only s (region_keys version)) _ r e (λ u0 e0 e. after (whole s key.Id 1 999999) _ r e (λ id ei e. after (name s key.Source) _ r e (λ source en e.
     after (span_of s) _ r e (λ span es e. after (whole_or s key.Layer 0 0 65535) _ r e (λ layer el e. after (gain_or s key.Gain) _ r e (λ gain eg e.
     after (flag_or s key.Opaque true) _ r e (λ opaque eo e. after (fades_of s span.length) _ r e (λ fades ef e.
     let i = whole-in s key.Id 1 999999 id ei in

@@ -10,6 +10,7 @@ use Rattle.session_model.specs.declared.key.Key.TheVariants as key
 use Rattle.session_model.specs.declared.refusal.Part.TheVariants as part
 use Rattle.session_model.specs.declared.refusal.Place.{Place}
 use Rattle.session_walk.specs.declared.said as text
+use Rattle.session_walk.specs.declared.said.Version.{Version}
 use Rattle.session_walk.specs.Section.{Section, Read, holds, only, value_at, nth, single, row_of, item_of}
 use Rattle.session_model.specs.declared.refusal.SessionRefusal.TheVariants.{Range, Kind}
 use Rattle.session_walk.specs.Values.{whole_of, whole, flag_or, name}
@@ -42,12 +43,12 @@ from-in {A} P read one base n (row ∷ rows) all e = after (read (record { place
     let is : x ∷ xs ≡ all = cc in
     subst (AreRead P (row ∷ rows)) is (record { each = All-cons P x xs (one (record { place = nth base n; members = row }) x ex) rest.each; long = ap suc rest.long })))
 
-record AreListed {A : Type 0} (P : A → Type 0) (size : ℕ) (rows : List Members) (l : Listed A) : Type 0 where
-  each : All P l.items
-  long : length l.items ≡ length rows
-  room : l.room ≡ size
+pub record AreListed {A : Type 0} (P : A → Type 0) (size : ℕ) (rows : List Members) (l : Listed A) : Type 0 where
+  pub each : All P l.items
+  pub long : length l.items ≡ length rows
+  pub room : l.room ≡ size
 
-entries-in : {A : Type 0} (P : A → Type 0) (read : Section → Read A) → ((s : Section) (x : A) → read s ≡ Ok x → P x) → (base : Place) (room : ℕ) (rows : List Members) (l : Listed A) →
+pub entries-in : {A : Type 0} (P : A → Type 0) (read : Section → Read A) → ((s : Section) (x : A) → read s ≡ Ok x → P x) → (base : Place) (room : ℕ) (rows : List Members) (l : Listed A) →
     entries read base room rows ≡ Ok l → AreListed P room rows l
 entries-in {A} P read one base room rows l e = after (entries_from read base 1 rows) _ l e (λ all ea e.
     let found = from-in P read one base 1 rows all ea in
@@ -115,15 +116,15 @@ settings-in s channels t few e = after (input s channels) _ t e (λ i ei e. afte
     able true i h a = h
     able false i h a = cc
 
-track-in : (s : Section) (k : text.TrackText.TrackText) → track_of s ≡ Ok k → IsTrack k
+track-in : (version : Version) (s : Section) (k : text.TrackText.TrackText) → track_of version s ≡ Ok k → IsTrack k
 unfolding track_of
-track-in s k e = after (only s track_keys) _ k e (λ u0 e0 e. after (named_of s) _ k e (λ named en e. after (settings_of s named.channels) _ k e (λ settings et e.
+track-in version s k e = after (only s track_keys) _ k e (λ u0 e0 e. after (named_of s) _ k e (λ named en e. after (settings_of s named.channels) _ k e (λ settings et e.
     after (strip_of s) _ k e (λ strip es e. after (tables s key.Send 8) _ k e (λ send_rows esr e. after (tables s key.Region 256) _ k e (λ region_rows err e.
-    after (entries region_of (item_of part.Region s.place.row) 256 region_rows) _ k e (λ regions er e.
+    after (entries (region_of version) (item_of part.Region s.place.row) 256 region_rows) _ k e (λ regions er e.
     after (entries send_of (item_of part.TrackSend s.place.row) 8 send_rows) _ k e (λ sends el e.
     let n = named-in s named en in
     let t = settings-in s named.channels settings (omega (arith, n.most)) et in
-    let r = entries-in IsRegionText region_of region-in (item_of part.Region s.place.row) 256 region_rows regions er in
+    let r = entries-in IsRegionText (region_of version) (region-in version) (item_of part.Region s.place.row) 256 region_rows regions er in
     let route : IsRoute (record { named = named; strip = strip; sends = sends }) = record {
       other = n.other;
       channels_least = n.least;
@@ -158,10 +159,10 @@ outline-in s o e = after (only s top_keys) _ o e (λ u0 e0 e. after (table s key
 parts-in : (o : Outline) (w : text.Written.Written) → IsOutline o → parts_of o ≡ Ok w → IsInRange w
 unfolding parts_of
 parts-in o w bounds e = after (head_of (record { place = single part.Session; members = o.session })) _ w e (λ head eh e.
-    after (entries source_of (row_of part.Source) 64 o.sources) _ w e (λ sources es e. after (entries track_of (row_of part.Track) 32 o.tracks) _ w e (λ tracks et e.
+    after (entries source_of (row_of part.Source) 64 o.sources) _ w e (λ sources es e. after (entries (track_of head.version) (row_of part.Track) 32 o.tracks) _ w e (λ tracks et e.
     after (entries bus_of (row_of part.Bus) 63 o.busses) _ w e (λ busses eb e. after (master_of (record { place = single part.Master; members = o.master })) _ w e (λ master em e.
     let s = entries-in IsSource source_of source-in (row_of part.Source) 64 o.sources sources es in
-    let t = entries-in IsTrack track_of track-in (row_of part.Track) 32 o.tracks tracks et in
+    let t = entries-in IsTrack (track_of head.version) (track-in head.version) (row_of part.Track) 32 o.tracks tracks et in
     let b = entries-in IsRoute bus_of bus-in (row_of part.Bus) 63 o.busses busses eb in
     let is : record { head = head; sources = sources; tracks = tracks; busses = busses; master = master } ≡ w = cc in
     subst IsInRange is (record {

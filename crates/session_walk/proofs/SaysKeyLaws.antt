@@ -1,5 +1,5 @@
 -- What is read of a key and of an array is what the text says.
-use Rattle.std.proofs.Common.{◌≡◌, inl, inr, ℕ, suc, ◌-◌, Bool, true, ◌&&◌, nat_le, refl, ap, sym, subst, ◌∙◌, List, [], ◌∷◌, length, Option, Some, None, bytes_eq, codes}
+use Rattle.std.proofs.Common.{◌≡◌, inl, inr, ℕ, suc, Bool, true, ◌&&◌, nat_le, refl, ap, sym, subst, ◌∙◌, List, [], ◌∷◌, length, Option, Some, None, bytes_eq, codes}
 use Rattle.std.specs.Prelude.{ℤ, pos, negsuc, is_none, ◌==◌, Ok}
 use Rattle.std.specs.Option.{ok_or, option_map, option_and_then}
 use Rattle.std.specs.List.{list_all}
@@ -16,17 +16,20 @@ use Rattle.ses_units.specs.declared.bits.Bits.{Bits}
 use Rattle.ses_units.specs.declared.bits.Bits.TheVariants.{B16, B24}
 use Rattle.ses_units.specs.declared.mode.Mode.{Mode}
 use Rattle.ses_units.specs.declared.mode.Mode.TheVariants.{Manual, Play}
-use Rattle.ses_units.specs.declared.point.Point.{Point}
+use Rattle.ses_units.specs.declared.shape.Shape.{Shape}
+use Rattle.ses_units.specs.declared.shape.Shape.TheVariants.{Linear, Slow}
 use Rattle.ses_io.specs.FixedList.{Listed}
 use Rattle.session_model.specs.FileName.{is_file_name}
 use Rattle.session_model.specs.declared.key.Key.{Key}
 use Rattle.session_model.specs.declared.key.Key.TheVariants as key
 use Rattle.session_model.specs.declared.refusal.Place.{Place}
+use Rattle.session_walk.specs.declared.said.Version.{Version}
+use Rattle.session_walk.specs.declared.said.Version.TheVariants.{One, Two}
 use Rattle.session_walk.specs.Section.{Section, Read, holds, value_at, nth}
-use Rattle.session_walk.specs.Values.{needed, or_default, integer_of, in_range, whole_of, whole, whole_or, bits_in, bits_of, bits, flag_of, flag_or, keeping, string_of, text_of, name, name_or, file, mode_in, mode_of, mode_or}
+use Rattle.session_walk.specs.Values.{needed, or_default, integer_of, in_range, whole_of, whole, whole_or, bits_in, bits, version_in, version, flag_of, flag_or, keeping, string_of, text_of, name, name_or, file, mode_in, mode_of, mode_or, shape_in, shape_of, shape_or}
 use Rattle.session_walk.specs.Arrays.{listed_items, array_of, array, each, tables, entries, entries_from}
 use Rattle.session_walk.specs.Lane.{is_pair, point_of, lane}
-use Rattle.session_walk.specs.Says.{at_key, SaysWhole, SaysText, SaysFlag, SaysItems, OrDefault, mode_word, SaysMode, SaysLane, AllSay, SaysEach}
+use Rattle.session_walk.specs.Says.{at_key, SaysWhole, SaysText, SaysFlag, SaysItems, OrDefault, mode_word, SaysMode, shape_word, SaysShape, version_number, SaysLane, AllSay, SaysEach}
 use Rattle.session_walk.proofs.PartRangeLaws.{after, some-in}
 
 -- ---- one key
@@ -106,6 +109,23 @@ bits-said s b e = after (needed s key.Bits) _ b e (λ d ed e. after (integer_of 
         none : None ≡ Some b → pos n ≡ pos (units.bits_of b)
         none g = cc
 
+pub version-said : (s : Section) (v : Version) → version s key.Version ≡ Ok v → SaysWhole s.members key.Version (version_number v)
+version-said s v e = after (needed s key.Version) _ v e (λ d ed e. after (integer_of s key.Version d) _ v e (λ z ez e.
+    ap (option_and_then as_integer) (needed-said s key.Version d ed) ∙ some-in (as_integer d) _ z ez ∙ ap (λ x. Some x) (these z v (some-in (version_in z) _ v e))))
+  where
+    these : (z : ℤ) (v : Version) → version_in z ≡ Some v → z ≡ pos (version_number v)
+    these (negsuc n) v f = cc
+    these (pos n) v f = by_test (n == 1) (λ t. first t (rw t at f)) (λ t. by_test (n == 2) (λ u. second u (rw u at (rw t at f))) (λ u. none (rw u at (rw t at f))))
+      where
+        first : (n == 1) ≡ true → Some One ≡ Some v → pos n ≡ pos (version_number v)
+        first t g = let is : One ≡ v = cc in ap pos (eqb-true n 1 t) ∙ ap (λ x. pos (version_number x)) is
+
+        second : (n == 2) ≡ true → Some Two ≡ Some v → pos n ≡ pos (version_number v)
+        second t g = let is : Two ≡ v = cc in ap pos (eqb-true n 2 t) ∙ ap (λ x. pos (version_number x)) is
+
+        none : None ≡ Some v → pos n ≡ pos (version_number v)
+        none g = cc
+
 pub mode_or-said : (s : Section) (mode : Mode) → mode_or s key.Mode ≡ Ok mode → OrDefault SaysMode s.members key.Mode Manual mode
 mode_or-said s mode e = default-said SaysMode s key.Mode Manual mode (mode_of s key.Mode) found e
   where
@@ -124,6 +144,25 @@ mode_or-said s mode e = default-said SaysMode s key.Mode Manual mode (mode_of s 
     found : (d : Data) → at_key s.members key.Mode ≡ Some d → mode_of s key.Mode d ≡ Ok mode → SaysMode s.members key.Mode mode
     found d here f = after (string_of s key.Mode d) _ mode f (λ t et f.
         ap (option_and_then as_str) here ∙ some-in (as_str d) _ t et ∙ ap (λ x. Some x) (these t (some-in (mode_in t) _ mode f)))
+
+pub shape_or-said : (s : Section) (k : Key) (shape : Shape) → shape_or s k ≡ Ok shape → OrDefault SaysShape s.members k Linear shape
+shape_or-said s k shape e = default-said SaysShape s k Linear shape (shape_of s k) found e
+  where
+    these : (t : List ℕ) → shape_in t ≡ Some shape → t ≡ shape_word shape
+    these t f = by_test (bytes_eq t (codes "linear")) (λ h. linear h (rw h at f)) (λ h. by_test (bytes_eq t (codes "slow")) (λ g. slow g (rw g at (rw h at f))) (λ g. none (rw g at (rw h at f))))
+      where
+        linear : bytes_eq t (codes "linear") ≡ true → Some Linear ≡ Some shape → t ≡ shape_word shape
+        linear h g = let is : Linear ≡ shape = cc in (bytes_eq-Decides t (codes "linear")).0 h ∙ ap shape_word is
+
+        slow : bytes_eq t (codes "slow") ≡ true → Some Slow ≡ Some shape → t ≡ shape_word shape
+        slow h g = let is : Slow ≡ shape = cc in (bytes_eq-Decides t (codes "slow")).0 h ∙ ap shape_word is
+
+        none : None ≡ Some shape → t ≡ shape_word shape
+        none g = cc
+
+    found : (d : Data) → at_key s.members k ≡ Some d → shape_of s k d ≡ Ok shape → SaysShape s.members k shape
+    found d here f = after (string_of s k d) _ shape f (λ t et f.
+        ap (option_and_then as_str) here ∙ some-in (as_str d) _ t et ∙ ap (λ x. Some x) (these t (some-in (shape_in t) _ shape f)))
 
 -- ---- arrays
 

@@ -1,18 +1,17 @@
 -- What is read of a text is what it says, key by key.
-use Rattle.std.proofs.Common.{◌≡◌, inl, inr, ℕ, ◌+◌, ◌-◌, ◌*◌, true, false, not, ◌||◌, nat_le, refl, ap, sym, subst, ◌∙◌, List, [], length, Option, Some, None, is_some, bytes_eq, codes}
+use Rattle.std.proofs.Common.{◌≡◌, inl, inr, ℕ, ◌+◌, ◌-◌, ◌*◌, true, false, not, ◌||◌, nat_le, refl, ap, sym, subst, ◌∙◌, List, length, Option, Some, None, is_some, bytes_eq, codes}
 use Rattle.std.specs.Prelude.{Ok}
 use Rattle.std.specs.Option.{option_and_then}
 use Rattle.toml.specs.Data.{Data, Members, no_members, as_table}
 use Rattle.sound_model.specs.Numbers.{unity}
-use Rattle.ses_units.specs.declared.bits.Bits.{Bits}
-use Rattle.ses_units.specs.declared.mode.Mode.{Mode}
 use Rattle.session_model.specs.declared.key.Key.{Key}
 use Rattle.session_model.specs.declared.key.Key.TheVariants as key
 use Rattle.session_model.specs.declared.refusal.Part.TheVariants as part
 use Rattle.session_model.specs.declared.session.SourceDecl.{SourceDecl}
 use Rattle.session_walk.specs.declared.said as text
+use Rattle.session_walk.specs.declared.said.Version.{Version}
 use Rattle.session_walk.specs.Section.{Section, holds, only, single, row_of, item_of}
-use Rattle.session_walk.specs.Values.{needed, whole_of, whole, whole_or, gain_or, bits, flag_or, name, name_or, file, mode_or}
+use Rattle.session_walk.specs.Values.{needed, whole_of, whole, whole_or, gain_or, bits, version, flag_or, name, name_or, file, mode_or, shape_or}
 use Rattle.session_walk.specs.Arrays.{tables, entries}
 use Rattle.session_walk.specs.Lane.{lane}
 use Rattle.session_walk.specs.Parts.{head_keys, source_keys, region_keys, send_keys, bus_keys, track_keys, master_keys, head_of, source_of, span_of, fades_of, region_of, send_of, level_of, automation_of, named_of, strip_of, bus_of, input, input_of, settings_of, track_of, master_of}
@@ -20,18 +19,19 @@ use Rattle.session_walk.specs.Text.{Outline, top_keys, table_of, table, table_or
 use Rattle.session_walk.specs.Says.{at_key, SaysTable, OrDefault, SaysInput, SaysHead, SaysSource, SaysSpan, SaysFades, SaysRegion, SaysSend, SaysNamed, SaysLevel, SaysAutomation, SaysChannelStrip, SaysRoute, SaysInputSettings, SaysTrack, SaysMaster, SaysAll}
 use Rattle.session_walk.specs.Laws.{WrittenIsSaid}
 use Rattle.session_walk.proofs.PartRangeLaws.{after, some-in}
-use Rattle.session_walk.proofs.SaysKeyLaws.{needed-said, default-said, whole_of-said, whole-said, whole_or-said, flag_or-said, name-said, name_or-said, file-said, bits-said, mode_or-said, lane-said, each-said}
+use Rattle.session_walk.proofs.SaysKeyLaws.{needed-said, default-said, whole_of-said, whole-said, whole_or-said, flag_or-said, name-said, name_or-said, file-said, bits-said, version-said, mode_or-said, shape_or-said, lane-said, each-said}
 
 -- ---- parts
 
 head-said : (s : Section) (h : text.Head.Head) → head_of s ≡ Ok h → SaysHead s.members h
 unfolding head_of
-head-said s h e = after (only s head_keys) _ h e (λ u0 e0 e. after (whole s key.Version 1 1) _ h e (λ u1 e1 e. after (whole s key.Rate 8000 192000) _ h e (λ rate er e.
+head-said s h e = after (only s head_keys) _ h e (λ u0 e0 e. after (version s key.Version) _ h e (λ v ev e. after (whole s key.Rate 8000 192000) _ h e (λ rate er e.
     after (bits s key.Bits) _ h e (λ b eb e. after (whole s key.Channels 1 2) _ h e (λ channels ec e. after (whole s key.Block 1 4096) _ h e (λ block ek e.
     after (whole s key.Depth 2 256) _ h e (λ depth ed e. after (holds (nat_le (depth * block) 65536) _) _ h e (λ u2 ef e.
     after (name_or s key.Takes (codes "take")) _ h e (λ takes et e.
-    let is : record { rate = rate; bits = b; channels = channels; block = block; depth = depth; takes = takes } ≡ h = cc in
+    let is : record { version = v; rate = rate; bits = b; channels = channels; block = block; depth = depth; takes = takes } ≡ h = cc in
     subst (SaysHead s.members) is (record {
+      version = version-said s v ev;
       rate = whole-said s key.Rate _ _ rate er;
       bits = bits-said s b eb;
       channels = whole-said s key.Channels _ _ channels ec;
@@ -58,12 +58,18 @@ span-said s p e = after (whole_or s key.Start 0 0 1099511627775) _ p e (λ start
 fades-said : (s : Section) (long : ℕ) (f : text.Fades.Fades) → fades_of s long ≡ Ok f → SaysFades s.members f
 unfolding fades_of
 fades-said s long f e = after (whole_or s key.FadeIn 0 0 long) _ f e (λ a ea e. after (whole_or s key.FadeOut 0 0 (long - a)) _ f e (λ b eb e.
-    let is : record { fade_in = a; fade_out = b } ≡ f = cc in
-    subst (SaysFades s.members) is (record { fade_in = whole_or-said s key.FadeIn 0 _ _ a ea; fade_out = whole_or-said s key.FadeOut 0 _ _ b eb })))
+    after (shape_or s key.ShapeIn) _ f e (λ shape_in ei e. after (shape_or s key.ShapeOut) _ f e (λ shape_out eo e.
+    let is : record { fade_in = a; fade_out = b; shape_in = shape_in; shape_out = shape_out } ≡ f = cc in
+    subst (SaysFades s.members) is (record {
+      fade_in = whole_or-said s key.FadeIn 0 _ _ a ea;
+      fade_out = whole_or-said s key.FadeOut 0 _ _ b eb;
+      shape_in = shape_or-said s key.ShapeIn shape_in ei;
+      shape_out = shape_or-said s key.ShapeOut shape_out eo;
+    })))))
 
-region-said : (s : Section) (r : text.RegionText.RegionText) → region_of s ≡ Ok r → SaysRegion s.members r
+region-said : (version : Version) (s : Section) (r : text.RegionText.RegionText) → region_of version s ≡ Ok r → SaysRegion s.members r
 unfolding region_of
-region-said s r e = after (only s region_keys) _ r e (λ u0 e0 e. after (whole s key.Id 1 999999) _ r e (λ id ei e. after (name s key.Source) _ r e (λ source en e.
+region-said version s r e = after (only s (region_keys version)) _ r e (λ u0 e0 e. after (whole s key.Id 1 999999) _ r e (λ id ei e. after (name s key.Source) _ r e (λ source en e.
     after (span_of s) _ r e (λ span es e. after (whole_or s key.Layer 0 0 65535) _ r e (λ layer el e. after (gain_or s key.Gain) _ r e (λ gain eg e.
     after (flag_or s key.Opaque true) _ r e (λ opaque eo e. after (fades_of s span.length) _ r e (λ fades ef e.
     let is : record { id = id; source = source; span = span; layer = layer; gain = gain; opaque = opaque; fades = fades } ≡ r = cc in
@@ -142,11 +148,11 @@ settings-said s channels t e = after (input s channels) _ t e (λ i ei e. after 
     let is : record { input = i; solo = solo; armed = armed } ≡ t = cc in
     subst (SaysInputSettings s.members) is (record { input = input-said s channels i ei; solo = flag_or-said s key.Solo false solo es; armed = flag_or-said s key.Arm false armed ea })))))
 
-track-said : (s : Section) (k : text.TrackText.TrackText) → track_of s ≡ Ok k → SaysTrack s.members k
+track-said : (version : Version) (s : Section) (k : text.TrackText.TrackText) → track_of version s ≡ Ok k → SaysTrack s.members k
 unfolding track_of
-track-said s k e = after (only s track_keys) _ k e (λ u0 e0 e. after (named_of s) _ k e (λ named en e. after (settings_of s named.channels) _ k e (λ settings et e.
+track-said version s k e = after (only s track_keys) _ k e (λ u0 e0 e. after (named_of s) _ k e (λ named en e. after (settings_of s named.channels) _ k e (λ settings et e.
     after (strip_of s) _ k e (λ strip es e. after (tables s key.Send 8) _ k e (λ send_rows esr e. after (tables s key.Region 256) _ k e (λ region_rows err e.
-    after (entries region_of (item_of part.Region s.place.row) 256 region_rows) _ k e (λ regions er e.
+    after (entries (region_of version) (item_of part.Region s.place.row) 256 region_rows) _ k e (λ regions er e.
     after (entries send_of (item_of part.TrackSend s.place.row) 8 send_rows) _ k e (λ sends el e.
     let route : SaysRoute s.members (record { named = named; strip = strip; sends = sends }) = record {
       named = named-said s named en;
@@ -158,7 +164,7 @@ track-said s k e = after (only s track_keys) _ k e (λ u0 e0 e. after (named_of 
       route = route;
       named = refl;
       settings = settings-said s named.channels settings et;
-      regions = each-said SaysRegion region_of region-said s key.Region 256 (item_of part.Region s.place.row) 256 region_rows regions err er;
+      regions = each-said SaysRegion (region_of version) (region-said version) s key.Region 256 (item_of part.Region s.place.row) 256 region_rows regions err er;
     })))))))))
 
 master-said : (s : Section) (t : text.MasterText.MasterText) → master_of s ≡ Ok t → SaysMaster s.members t
@@ -188,13 +194,13 @@ parts-said s o w eo ew = after (only s top_keys) _ o eo (λ u0 e0 e. after (tabl
         tables s key.Track 32 ≡ Ok tracks → tables s key.Bus (63 - length tracks) ≡ Ok busses → table_or_empty s key.Master ≡ Ok master →
         parts_of (record { session = session; sources = sources; tracks = tracks; busses = busses; master = master }) ≡ Ok w → SaysAll s.members w
     go session sources tracks busses master es ec et eb em e = after (head_of (record { place = single part.Session; members = session })) _ w e (λ h eh e.
-        after (entries source_of (row_of part.Source) 64 sources) _ w e (λ ds ed e. after (entries track_of (row_of part.Track) 32 tracks) _ w e (λ ks ek e.
+        after (entries source_of (row_of part.Source) 64 sources) _ w e (λ ds ed e. after (entries (track_of h.version) (row_of part.Track) 32 tracks) _ w e (λ ks ek e.
         after (entries bus_of (row_of part.Bus) 63 busses) _ w e (λ qs eq e. after (master_of (record { place = single part.Master; members = master })) _ w e (λ t er e.
         let is : record { head = h; sources = ds; tracks = ks; busses = qs; master = t } ≡ w = cc in
         subst (SaysAll s.members) is (record {
           session = (session, table-said s key.Session session es, head-said (record { place = single part.Session; members = session }) h eh);
           sources = each-said SaysSource source_of source-said s key.Source 64 (row_of part.Source) 64 sources ds ec ed;
-          tracks = each-said SaysTrack track_of track-said s key.Track 32 (row_of part.Track) 32 tracks ks et ek;
+          tracks = each-said SaysTrack (track_of h.version) (track-said h.version) s key.Track 32 (row_of part.Track) 32 tracks ks et ek;
           busses = each-said SaysRoute bus_of bus-said s key.Bus (63 - length tracks) (row_of part.Bus) 63 busses qs eb eq;
           master = (master, table_or_empty-said s key.Master master em, master-said (record { place = single part.Master; members = master }) t er);
         }))))))

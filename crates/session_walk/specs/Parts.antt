@@ -7,8 +7,10 @@ use Rattle.session_model.specs.declared.refusal.Part.TheVariants as part
 use Rattle.session_model.specs.declared.refusal.SessionRefusal.TheVariants.{Range}
 use Rattle.session_model.specs.declared.session.SourceDecl.{SourceDecl}
 use Rattle.session_walk.specs.declared.said as text
+use Rattle.session_walk.specs.declared.said.Version.{Version}
+use Rattle.session_walk.specs.declared.said.Version.TheVariants.{One, Two}
 use Rattle.session_walk.specs.Section.{Section, Read, ◌>>=◌, holds, only, value_at, item_of}
-use Rattle.session_walk.specs.Values.{or_default, whole_of, whole, whole_or, gain_or, bits, flag_or, name, name_or, file, mode_or}
+use Rattle.session_walk.specs.Values.{or_default, whole_of, whole, whole_or, gain_or, bits, version, flag_or, name, name_or, file, mode_or, shape_or}
 use Rattle.session_walk.specs.Arrays.{tables, entries}
 use Rattle.session_walk.specs.Lane.{lane}
 
@@ -20,7 +22,7 @@ head_keys = key.Version ∷ key.Rate ∷ key.Bits ∷ key.Channels ∷ key.Block
 unfoldable pub head_of : Section → Read text.Head.Head
 head_of s = do
   known ← only s head_keys
-  version ← whole s key.Version 1 1
+  version ← version s key.Version
   rate ← whole s key.Rate 8000 192000
   bits ← bits s key.Bits
   channels ← whole s key.Channels 1 2
@@ -28,7 +30,7 @@ head_of s = do
   depth ← whole s key.Depth 2 256
   fits ← holds (nat_le (depth * block) 65536) (Range s.place key.Depth)
   takes ← name_or s key.Takes (codes "take")
-  Ok (record { rate = rate; bits = bits; channels = channels; block = block; depth = depth; takes = takes })
+  Ok (record { version = version; rate = rate; bits = bits; channels = channels; block = block; depth = depth; takes = takes })
 
 abbrev pub source_keys : List Key
 source_keys = key.Name ∷ key.File ∷ key.Channels ∷ []
@@ -52,19 +54,26 @@ span_of s = do
   near ← holds (nat_le (at + long) 1099511627776) (Range s.place key.At)
   Ok (record { start = start; length = long; at = at })
 
--- fades that don't overlap in a region of so many frames
+-- fades that don't overlap in a region of so many frames, and their shapes
 unfoldable pub fades_of : Section → ℕ → Read text.Fades.Fades
 fades_of s long = do
   fade_in ← whole_or s key.FadeIn 0 0 long
   fade_out ← whole_or s key.FadeOut 0 0 (long - fade_in)
-  Ok (record { fade_in = fade_in; fade_out = fade_out })
+  shape_in ← shape_or s key.ShapeIn
+  shape_out ← shape_or s key.ShapeOut
+  Ok (record { fade_in = fade_in; fade_out = fade_out; shape_in = shape_in; shape_out = shape_out })
 
-abbrev pub region_keys : List Key
-region_keys = key.Id ∷ key.Source ∷ key.Start ∷ key.Length ∷ key.At ∷ key.Layer ∷ key.Gain ∷ key.Opaque ∷ key.FadeIn ∷ key.FadeOut ∷ []
+-- shapes are keys of version 2 alone
+abbrev pub shape_keys : Version → List Key
+shape_keys One = []
+shape_keys Two = key.ShapeIn ∷ key.ShapeOut ∷ []
 
-unfoldable pub region_of : Section → Read text.RegionText.RegionText
-region_of s = do
-  known ← only s region_keys
+abbrev pub region_keys : Version → List Key
+region_keys version = key.Id ∷ key.Source ∷ key.Start ∷ key.Length ∷ key.At ∷ key.Layer ∷ key.Gain ∷ key.Opaque ∷ key.FadeIn ∷ key.FadeOut ∷ shape_keys version
+
+unfoldable pub region_of : Version → Section → Read text.RegionText.RegionText
+region_of version s = do
+  known ← only s (region_keys version)
   id ← whole s key.Id 1 999999
   source ← name s key.Source
   span ← span_of s
@@ -149,15 +158,15 @@ settings_of s channels = do
 abbrev pub track_keys : List Key
 track_keys = key.Name ∷ key.Channels ∷ key.Input ∷ key.Solo ∷ key.Arm ∷ key.Out ∷ key.Gain ∷ key.Mute ∷ key.Left ∷ key.Right ∷ key.Mode ∷ key.Lane ∷ key.Send ∷ key.Region ∷ []
 
-unfoldable pub track_of : Section → Read text.TrackText.TrackText
-track_of s = do
+unfoldable pub track_of : Version → Section → Read text.TrackText.TrackText
+track_of version s = do
   known ← only s track_keys
   named ← named_of s
   settings ← settings_of s named.channels
   strip ← strip_of s
   send_rows ← tables s key.Send 8
   region_rows ← tables s key.Region 256
-  regions ← entries region_of (item_of part.Region s.place.row) 256 region_rows
+  regions ← entries (region_of version) (item_of part.Region s.place.row) 256 region_rows
   sends ← entries send_of (item_of part.TrackSend s.place.row) 8 send_rows
   Ok (record { route = record { named = named; strip = strip; sends = sends }; own = record { named = named; settings = settings; regions = regions } })
 

@@ -1,19 +1,22 @@
 -- What a text says, in the words of its keys: the value that stands at a key, or the default where the key is absent.
-use Rattle.std.specs.Prelude.{◌≡◌, ◌⊎◌, ℕ, ℤ, pos, Bool, true, false, List, [], ◌∷◌, Option, Some, None, ⊤, codes}
+use Rattle.std.specs.Prelude.{◌≡◌, ◌⊎◌, ℕ, pos, Bool, true, false, List, [], ◌∷◌, Option, Some, None, ⊤, codes}
 use Rattle.std.specs.Option.{option_map, option_and_then}
 use Rattle.toml.specs.Data.{Data, Members, no_members, get_member, as_integer, as_str, as_bool, as_array, as_table}
 use Rattle.sound_model.specs.Numbers.{unity}
 use Rattle.sound_model.specs.Lanes as sound
 use Rattle.ses_units.specs.Bits.{bits_of}
 use Rattle.ses_units.specs.Point.{points_of}
-use Rattle.ses_units.specs.declared.bits.Bits.{Bits}
 use Rattle.ses_units.specs.declared.mode.Mode.{Mode}
 use Rattle.ses_units.specs.declared.mode.Mode.TheVariants.{Manual, Play}
 use Rattle.ses_units.specs.declared.point.Point.{Point}
+use Rattle.ses_units.specs.declared.shape.Shape.{Shape}
+use Rattle.ses_units.specs.declared.shape.Shape.TheVariants.{Linear, Slow}
 use Rattle.session_model.specs.declared.key.Key.{Key}
 use Rattle.session_model.specs.declared.key.Key.TheVariants as key
 use Rattle.session_model.specs.declared.session.SourceDecl.{SourceDecl}
 use Rattle.session_walk.specs.declared.said as text
+use Rattle.session_walk.specs.declared.said.Version.{Version}
+use Rattle.session_walk.specs.declared.said.Version.TheVariants.{One, Two}
 use Rattle.session_walk.specs.declared.said.Written.{Written}
 use Rattle.session_walk.specs.Words.{word}
 use Rattle.session_walk.specs.Arrays.{listed_items, each}
@@ -53,6 +56,18 @@ mode_word Play = codes "play"
 abbrev pub SaysMode : Members → Key → Mode → Type 0
 SaysMode m k mode = SaysText m k (mode_word mode)
 
+abbrev pub shape_word : Shape → List ℕ
+shape_word Linear = codes "linear"
+shape_word Slow = codes "slow"
+
+abbrev pub SaysShape : Members → Key → Shape → Type 0
+SaysShape m k shape = SaysText m k (shape_word shape)
+
+-- the version as the number that a text has for it
+abbrev pub version_number : Version → ℕ
+version_number One = 1
+version_number Two = 2
+
 -- the first of the input's channels, or none
 abbrev pub SaysInput : Members → Option ℕ → Type 0
 SaysInput m None = IsAbsent m key.Input
@@ -77,6 +92,7 @@ SaysEach Says m k xs = (items : List Data) × (rows : List Members) × OrDefault
 -- ---- parts
 
 pub record SaysHead (m : Members) (h : text.Head.Head) : Type 0 where
+  pub version : SaysWhole m key.Version (version_number h.version)
   pub rate : SaysWhole m key.Rate h.rate
   pub bits : SaysWhole m key.Bits (bits_of h.bits)
   pub channels : SaysWhole m key.Channels h.channels
@@ -97,6 +113,8 @@ pub record SaysSpan (m : Members) (p : text.Span.Span) : Type 0 where
 pub record SaysFades (m : Members) (f : text.Fades.Fades) : Type 0 where
   pub fade_in : OrDefault SaysWhole m key.FadeIn 0 f.fade_in
   pub fade_out : OrDefault SaysWhole m key.FadeOut 0 f.fade_out
+  pub shape_in : OrDefault SaysShape m key.ShapeIn Linear f.shape_in
+  pub shape_out : OrDefault SaysShape m key.ShapeOut Linear f.shape_out
 
 pub record SaysRegion (m : Members) (r : text.RegionText.RegionText) : Type 0 where
   pub id : SaysWhole m key.Id r.id

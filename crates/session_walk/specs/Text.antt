@@ -51,7 +51,7 @@ unfoldable pub parts_of : Outline → Read Written
 parts_of o = do
   head ← head_of (record { place = single part.Session; members = o.session })
   sources ← entries source_of (row_of part.Source) 64 o.sources
-  tracks ← entries track_of (row_of part.Track) 32 o.tracks
+  tracks ← entries (track_of head.version) (row_of part.Track) 32 o.tracks
   busses ← entries bus_of (row_of part.Bus) 63 o.busses
   master ← master_of (record { place = single part.Master; members = o.master })
   Ok (record { head = head; sources = sources; tracks = tracks; busses = busses; master = master })

@@ -7,10 +7,14 @@ use Rattle.ses_units.specs.declared.bits.Bits.{Bits}
 use Rattle.ses_units.specs.declared.bits.Bits.TheVariants.{B16, B24}
 use Rattle.ses_units.specs.declared.mode.Mode.{Mode}
 use Rattle.ses_units.specs.declared.mode.Mode.TheVariants.{Manual, Play}
+use Rattle.ses_units.specs.declared.shape.Shape.{Shape}
+use Rattle.ses_units.specs.declared.shape.Shape.TheVariants.{Linear, Slow}
 use Rattle.toml.specs.Data.{Data, as_integer, as_str, as_bool}
 use Rattle.session_model.specs.FileName.{is_file_name}
 use Rattle.session_model.specs.declared.key.Key.{Key}
 use Rattle.session_model.specs.declared.refusal.SessionRefusal.TheVariants.{Missing, Kind, Range}
+use Rattle.session_walk.specs.declared.said.Version.{Version}
+use Rattle.session_walk.specs.declared.said.Version.TheVariants.{One, Two}
 use Rattle.session_walk.specs.Section.{Section, Read, ◌>>=◌, value_at}
 
 -- the value of a key that has no default
@@ -55,6 +59,17 @@ bits_of s key value = integer_of s key value >>= λ z. ok_or (bits_in z) (Range 
 abbrev pub bits : Section → Key → Read Bits
 bits s key = needed s key >>= bits_of s key
 
+-- the version of the rules by which a text is read
+abbrev pub version_in : ℤ → Option Version
+version_in (pos n) = if n == 1 then Some One else (if n == 2 then Some Two else None)
+version_in (negsuc n) = None
+
+abbrev pub version_of : Section → Key → Data → Read Version
+version_of s key value = integer_of s key value >>= λ z. ok_or (version_in z) (Range s.place key)
+
+abbrev pub version : Section → Key → Read Version
+version s key = needed s key >>= version_of s key
+
 -- ---- truth values
 
 abbrev pub flag_of : Section → Key → Data → Read Bool
@@ -93,3 +108,12 @@ mode_of s key value = string_of s key value >>= λ text. ok_or (mode_in text) (R
 
 abbrev pub mode_or : Section → Key → Read Mode
 mode_or s key = or_default Manual (mode_of s key) (value_at s key)
+
+abbrev pub shape_in : List ℕ → Option Shape
+shape_in text = if bytes_eq text (codes "linear") then Some Linear else (if bytes_eq text (codes "slow") then Some Slow else None)
+
+abbrev pub shape_of : Section → Key → Data → Read Shape
+shape_of s key value = string_of s key value >>= λ text. ok_or (shape_in text) (Range s.place key)
+
+abbrev pub shape_or : Section → Key → Read Shape
+shape_or s key = or_default Linear (shape_of s key) (value_at s key)

@@ -1,7 +1,7 @@
 -- The words of a session's text.
 use Rattle.std.specs.Prelude.{ℕ, List, codes}
 use Rattle.session_model.specs.declared.key.Key.{Key}
-use Rattle.session_model.specs.declared.key.Key.TheVariants.{Session, Version, Rate, Bits, Channels, Block, Depth, Takes, Source, Name, File, Track, Input, Solo, Arm, Out, Gain, Mute, Left, Right, Mode, Lane, Send, To, Pre, Region, Id, Start, Length, At, Layer, Opaque, FadeIn, FadeOut, Bus, Master}
+use Rattle.session_model.specs.declared.key.Key.TheVariants.{Session, Version, Rate, Bits, Channels, Block, Depth, Takes, Source, Name, File, Track, Input, Solo, Arm, Out, Gain, Mute, Left, Right, Mode, Lane, Send, To, Pre, Region, Id, Start, Length, At, Layer, Opaque, FadeIn, FadeOut, ShapeIn, ShapeOut, Bus, Master}
 
 -- the bytes that a key is written as
 unfoldable pub word : Key → List ℕ
@@ -39,5 +39,7 @@ word Layer = codes "layer"
 word Opaque = codes "opaque"
 word FadeIn = codes "fade_in"
 word FadeOut = codes "fade_out"
+word ShapeIn = codes "shape_in"
+word ShapeOut = codes "shape_out"
 word Bus = codes "bus"
 word Master = codes "master"

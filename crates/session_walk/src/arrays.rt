@@ -7,8 +7,10 @@ ghost use Rattle.session_walk.specs.Arrays.{lent_all};
 ghost use Rattle.session_walk.specs.Fault.{Gives, GivesTables};
 ghost use Rattle.session_walk.specs.Section as spec_section;
 ghost use Rattle.session_walk.specs.Section.{section_of, Read};
+ghost use Rattle.session_walk.specs.declared.said.Version as said;
 
 use crate::fault::SessionFault;
+use crate::said::Version;
 use crate::section::{Section, holds, nth, value_at};
 use ses_io::FixedList;
 use session_model::{Key, Place, SessionRefusal};
@@ -73,29 +75,31 @@ pub(crate) fn tables<'a>(
 
 /// What an entry of an array of tables is read as.
 pub(crate) trait Entry: Sized + Drop {
-    /// What a part of the text says.
-    ghost says: { spec_section.Section → Read Self };
+    /// What a part of the text says in a version.
+    ghost says: { said.Version → spec_section.Section → Read Self };
 
     /// Reads a part of the text.
-    fn read(alloc: Global, part: Section<'_>) -> Result<Self, SessionFault>
-        ensures { Gives (says (section_of part.entry)) result };
+    fn read(alloc: Global, version: Version, part: Section<'_>) -> Result<Self, SessionFault>
+        ensures { Gives (says version (section_of part.entry)) result };
 }
 
 /// The entries of an array of tables, at most as many as there is room for.
 pub(crate) fn entries<T: Entry>(
     alloc: Global,
+    version: Version,
     base: Place,
     room: u32,
     rows: &[&Table],
 ) -> Result<FixedList<T>, SessionFault>
     requires room { length rows.now ≤ room }
     requires few { room ≤ 256 }
-    ensures { Gives (spec.entries T.says base room (map (λ t. table_view t.now) rows.now)) result }
+    ensures { Gives (spec.entries (T.says version) base room
+        (map (λ t. table_view t.now) rows.now)) result }
 {
     let mut all = FixedList::new(alloc, room)?;
     for (i, row) in rows.iter().enumerate() {
         let place = nth(base, i as u32 + 1);
-        let one = T::read(alloc, Section { place, table: *row })?;
+        let one = T::read(alloc, version, Section { place, table: *row })?;
         all.push(one);
     }
     Ok(all)

@@ -6,14 +6,15 @@ ghost use Rattle.session_walk.specs.Parts as spec;
 ghost use Rattle.session_walk.specs.Section.{section_of};
 
 use crate::arrays::{Entry, entries, tables};
+use crate::choices::mode_or;
 use crate::fault::SessionFault;
 use crate::lane::lane;
 use crate::said::{
     Automation, ChannelStrip, InputSettings, Level, MasterText, Named, RouteText, TrackOwn,
-    TrackText,
+    TrackText, Version,
 };
 use crate::section::{Section, holds, item_of, only, value_at};
-use crate::values::{flag_or, gain_or, mode_or, name, name_or, whole, whole_of};
+use crate::values::{flag_or, gain_or, name, name_or, whole, whole_of};
 use ses_units::Name;
 use ses_units::limits::{REGIONS, SENDS};
 use session_model::{Key, Part, SessionRefusal};
@@ -99,16 +100,16 @@ impl Entry for RouteText {
     ghost use Rattle.session_walk.specs.Section.{section_of};
     ghost use Rattle.session_walk.specs.Fault.{Gives};
 
-    ghost says = { spec.bus_of };
+    ghost says = { λ version. spec.bus_of };
 
     #[tactic(auto, unfolding(crate::specs::Parts::bus_of))]
-    fn read(alloc: Global, part: Section<'_>) -> Result<RouteText, SessionFault> {
+    fn read(alloc: Global, version: Version, part: Section<'_>) -> Result<RouteText, SessionFault> {
         only(part, &BUS_KEYS)?;
         let named = named_of(part)?;
         let strip = strip_of(alloc, part)?;
         let rows = tables(alloc, part, Key::Send, SENDS as usize)?;
         let base = item_of(Part::BusSend, part.place.row);
-        let sends = entries(alloc, base, SENDS, &rows)?;
+        let sends = entries(alloc, version, base, SENDS, &rows)?;
         Ok(RouteText {
             named,
             strip,
@@ -175,7 +176,7 @@ impl Entry for TrackText {
     ghost says = { spec.track_of };
 
     #[tactic(auto, unfolding(crate::specs::Parts::track_of))]
-    fn read(alloc: Global, part: Section<'_>) -> Result<TrackText, SessionFault> {
+    fn read(alloc: Global, version: Version, part: Section<'_>) -> Result<TrackText, SessionFault> {
         only(part, &TRACK_KEYS)?;
         let named = named_of(part)?;
         let settings = settings_of(part, named.channels)?;
@@ -183,8 +184,20 @@ impl Entry for TrackText {
         let send_rows = tables(alloc, part, Key::Send, SENDS as usize)?;
         let region_rows = tables(alloc, part, Key::Region, REGIONS as usize)?;
         let row = part.place.row;
-        let regions = entries(alloc, item_of(Part::Region, row), REGIONS, &region_rows)?;
-        let sends = entries(alloc, item_of(Part::TrackSend, row), SENDS, &send_rows)?;
+        let regions = entries(
+            alloc,
+            version,
+            item_of(Part::Region, row),
+            REGIONS,
+            &region_rows,
+        )?;
+        let sends = entries(
+            alloc,
+            version,
+            item_of(Part::TrackSend, row),
+            SENDS,
+            &send_rows,
+        )?;
         let own = TrackOwn {
             named: Named { ..named },
             settings,

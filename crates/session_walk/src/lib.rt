@@ -2,6 +2,7 @@
 #![tactic(auto)]
 
 mod arrays;
+mod choices;
 mod desk;
 mod fault;
 mod lane;
@@ -17,6 +18,7 @@ pub use fault::SessionFault;
 pub use laws::{written_is_in_range, written_is_said};
 pub use said::{
     Automation, ChannelStrip, Fades, Head, InputSettings, Level, MasterText, Named, RegionText,
-    RouteText, SendText, Span, TrackOwn, TrackText, Written,
+    RouteText, SendText, Span, TrackOwn, TrackText, Version, Written,
 };
 pub use text::written;
+pub use words::word;

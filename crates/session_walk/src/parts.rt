@@ -5,10 +5,11 @@ ghost use Rattle.session_walk.specs.Parts as spec;
 ghost use Rattle.session_walk.specs.Section.{section_of};
 
 use crate::arrays::Entry;
+use crate::choices::{bits, shape_or, version};
 use crate::fault::SessionFault;
-use crate::said::{Fades, Head, RegionText, SendText, Span};
+use crate::said::{Fades, Head, RegionText, SendText, Span, Version};
 use crate::section::{Section, holds, only};
-use crate::values::{bits, file, flag_or, gain_or, name, name_or, whole, whole_or};
+use crate::values::{file, flag_or, gain_or, name, name_or, whole, whole_or};
 use ses_units::limits;
 use session_model::{Key, SessionRefusal, SourceDecl};
 use std::alloc::Global;
@@ -29,7 +30,7 @@ pub(crate) fn head_of(part: Section<'_>) -> Result<Head, SessionRefusal>
     ensures { result ≡ spec.head_of (section_of part.entry) }
 {
     only(part, &HEAD_KEYS)?;
-    whole(part, Key::Version, 1, 1)?;
+    let version = version(part, Key::Version)?;
     let rate = whole(part, Key::Rate, 8_000, 192_000)?;
     let bits = bits(part, Key::Bits)?;
     let channels = whole(part, Key::Channels, 1, 2)?;
@@ -41,6 +42,7 @@ pub(crate) fn head_of(part: Section<'_>) -> Result<Head, SessionRefusal>
     )?;
     let takes = name_or(part, Key::Takes, "take")?;
     Ok(Head {
+        version,
         rate: rate as u32,
         bits,
         channels: channels as u16,
@@ -55,10 +57,14 @@ impl Entry for SourceDecl {
     ghost use Rattle.session_walk.specs.Section.{section_of};
     ghost use Rattle.session_walk.specs.Fault.{Gives};
 
-    ghost says = { spec.source_of };
+    ghost says = { λ version. spec.source_of };
 
     #[tactic(auto, unfolding(crate::specs::Parts::source_of))]
-    fn read(alloc: Global, part: Section<'_>) -> Result<SourceDecl, SessionFault> {
+    fn read(
+        alloc: Global,
+        _version: Version,
+        part: Section<'_>,
+    ) -> Result<SourceDecl, SessionFault> {
         only(part, &[Key::Name, Key::File, Key::Channels])?;
         let name = name(part, Key::Name)?;
         let file = file(alloc, part, Key::File)?;
@@ -76,10 +82,14 @@ impl Entry for SendText {
     ghost use Rattle.session_walk.specs.Section.{section_of};
     ghost use Rattle.session_walk.specs.Fault.{Gives};
 
-    ghost says = { spec.send_of };
+    ghost says = { λ version. spec.send_of };
 
     #[tactic(auto, unfolding(crate::specs::Parts::send_of))]
-    fn read(_alloc: Global, part: Section<'_>) -> Result<SendText, SessionFault> {
+    fn read(
+        _alloc: Global,
+        _version: Version,
+        part: Section<'_>,
+    ) -> Result<SendText, SessionFault> {
         only(part, &[Key::To, Key::Pre, Key::Gain])?;
         let to = name(part, Key::To)?;
         let pre = flag_or(part, Key::Pre, false)?;
@@ -109,10 +119,18 @@ fn fades_of(part: Section<'_>, length: u64) -> Result<Fades, SessionRefusal>
 {
     let fade_in = whole_or(part, Key::FadeIn, 0, 0, length)?;
     let fade_out = whole_or(part, Key::FadeOut, 0, 0, length - fade_in)?;
-    Ok(Fades { fade_in, fade_out })
+    let shape_in = shape_or(part, Key::ShapeIn)?;
+    let shape_out = shape_or(part, Key::ShapeOut)?;
+    Ok(Fades {
+        fade_in,
+        fade_out,
+        shape_in,
+        shape_out,
+    })
 }
 
-const REGION_KEYS: [Key; 10] = [
+// The last two are known in version 2 alone.
+const REGION_KEYS: [Key; 12] = [
     Key::Id,
     Key::Source,
     Key::Start,
@@ -123,13 +141,25 @@ const REGION_KEYS: [Key; 10] = [
     Key::Opaque,
     Key::FadeIn,
     Key::FadeOut,
+    Key::ShapeIn,
+    Key::ShapeOut,
 ];
 
-#[tactic(auto, unfolding(crate::specs::Parts::region_of))]
-fn region_of(part: Section<'_>) -> Result<RegionText, SessionRefusal>
-    ensures { result ≡ spec.region_of (section_of part.entry) }
+// The keys that a region may have.
+fn region_keys(version: Version) -> &'static [Key]
+    ensures { result.now ≡ spec.region_keys version }
 {
-    only(part, &REGION_KEYS)?;
+    match version {
+        Version::One => &REGION_KEYS[..10],
+        Version::Two => &REGION_KEYS,
+    }
+}
+
+#[tactic(auto, unfolding(crate::specs::Parts::region_of))]
+fn region_of(version: Version, part: Section<'_>) -> Result<RegionText, SessionRefusal>
+    ensures { result ≡ spec.region_of version (section_of part.entry) }
+{
+    only(part, region_keys(version))?;
     let id = whole(part, Key::Id, 1, 999_999)?;
     let source = name(part, Key::Source)?;
     let span = span_of(part)?;
@@ -155,8 +185,12 @@ impl Entry for RegionText {
 
     ghost says = { spec.region_of };
 
-    fn read(_alloc: Global, part: Section<'_>) -> Result<RegionText, SessionFault> {
-        let region = region_of(part)?;
+    fn read(
+        _alloc: Global,
+        version: Version,
+        part: Section<'_>,
+    ) -> Result<RegionText, SessionFault> {
+        let region = region_of(version, part)?;
         Ok(region)
     }
 }

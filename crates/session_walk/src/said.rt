@@ -1,11 +1,21 @@
 //! What a session's text says, part by part: names are still names.
 use ses_io::FixedList;
-use ses_units::{Bits, Gain, Lane, Mode, Name};
+use ses_units::{Bits, Gain, Lane, Mode, Name, Shape};
 use session_model::SourceList;
+
+/// The version of the rules by which a session's text is read: a key that joined later is none of an earlier version.
+#[derive(Clone, Copy, PartialEq, Eq)]
+pub enum Version {
+    /// The first: every fade is linear.
+    One,
+    /// With shapes of fades.
+    Two,
+}
 
 /// The table `session`.
 #[derive(Clone, Copy)]
 pub struct Head {
+    pub version: Version,
     /// Frames a second.
     pub rate: u32,
     /// The bits of a sample in the master and in the takes.
@@ -94,11 +104,13 @@ pub struct Span {
     pub at: u64,
 }
 
-/// The frames of a region's fades.
+/// The frames of a region's fades, and their shapes.
 #[derive(Clone, Copy)]
 pub struct Fades {
     pub fade_in: u64,
     pub fade_out: u64,
+    pub shape_in: Shape,
+    pub shape_out: Shape,
 }
 
 /// A region.

@@ -98,9 +98,27 @@ fn parts_of(alloc: Global, outline: &Outline<'_>) -> Result<Written, SessionFaul
         table: outline.session,
     };
     let head = head_of(session)?;
-    let sources = entries(alloc, row_of(Part::Source), SOURCES, &outline.sources)?;
-    let tracks = entries(alloc, row_of(Part::Track), TRACKS, &outline.tracks)?;
-    let busses = entries(alloc, row_of(Part::Bus), ROUTES - 1, &outline.busses)?;
+    let sources = entries(
+        alloc,
+        head.version,
+        row_of(Part::Source),
+        SOURCES,
+        &outline.sources,
+    )?;
+    let tracks = entries(
+        alloc,
+        head.version,
+        row_of(Part::Track),
+        TRACKS,
+        &outline.tracks,
+    )?;
+    let busses = entries(
+        alloc,
+        head.version,
+        row_of(Part::Bus),
+        ROUTES - 1,
+        &outline.busses,
+    )?;
     let master = Section {
         place: single(Part::Master),
         table: outline.master,

@@ -9,7 +9,7 @@ ghost use Rattle.ses_units.specs.Name.{is_name};
 use crate::fault::SessionFault;
 use crate::section::{Section, value_at};
 use ses_units::limits::LOUDEST;
-use ses_units::{Bits, Gain, Mode, Name};
+use ses_units::{Gain, Name};
 use session_model::{FileName, FileNameRefusal, Key, SessionRefusal};
 use std::alloc::Global;
 use toml::Value;
@@ -37,7 +37,7 @@ pub(crate) fn in_range(low: u64, high: u64, n: i64) -> Option<u64>
     if low <= n && n <= high { Some(n) } else { None }
 }
 
-fn integer_of(part: Section<'_>, key: Key, value: &Value) -> Result<i64, SessionRefusal>
+pub(crate) fn integer_of(part: Section<'_>, key: Key, value: &Value) -> Result<i64, SessionRefusal>
     ensures { result ≡ spec.integer_of (section_of part.entry) key (view value.now) }
 {
     match value.as_integer() {
@@ -102,34 +102,6 @@ pub(crate) fn gain_or(part: Section<'_>, key: Key) -> Result<Gain, SessionRefusa
     }
 }
 
-fn bits_in(n: i64) -> Option<Bits>
-    ensures { result ≡ spec.bits_in n }
-{
-    match n {
-        16 => Some(Bits::B16),
-        24 => Some(Bits::B24),
-        _ => None,
-    }
-}
-
-fn bits_of(part: Section<'_>, key: Key, value: &Value) -> Result<Bits, SessionRefusal>
-    ensures { result ≡ spec.bits_of (section_of part.entry) key (view value.now) }
-{
-    let n = integer_of(part, key, value)?;
-    match bits_in(n) {
-        Some(bits) => Ok(bits),
-        None => Err(SessionRefusal::Range(part.place, key)),
-    }
-}
-
-/// The bits of a sample at a key.
-pub(crate) fn bits(part: Section<'_>, key: Key) -> Result<Bits, SessionRefusal>
-    ensures { result ≡ spec.bits (section_of part.entry) key }
-{
-    let value = needed(part, key)?;
-    bits_of(part, key, value)
-}
-
 // ---- truth values
 
 fn flag_of(part: Section<'_>, key: Key, value: &Value) -> Result<bool, SessionRefusal>
@@ -153,7 +125,11 @@ pub(crate) fn flag_or(part: Section<'_>, key: Key, default: bool) -> Result<bool
 
 // ---- texts
 
-fn text_of<'a>(part: Section<'_>, key: Key, value: &'a Value) -> Result<&'a str, SessionRefusal>
+pub(crate) fn text_of<'a>(
+    part: Section<'_>,
+    key: Key,
+    value: &'a Value,
+) -> Result<&'a str, SessionRefusal>
     ensures { spoken result ≡ spec.string_of (section_of part.entry) key (view value.now) }
 {
     match value.as_str() {
@@ -214,37 +190,5 @@ pub(crate) fn file(alloc: Global, part: Section<'_>, key: Key) -> Result<FileNam
             part.place, key,
         ))),
         Err(FileNameRefusal::NoMemory) => Err(SessionFault::NoMemory),
-    }
-}
-
-fn mode_in(text: &str) -> Option<Mode>
-    ensures { result ≡ spec.mode_in text.now }
-{
-    if text == "manual" {
-        Some(Mode::Manual)
-    } else if text == "play" {
-        Some(Mode::Play)
-    } else {
-        None
-    }
-}
-
-fn mode_of(part: Section<'_>, key: Key, value: &Value) -> Result<Mode, SessionRefusal>
-    ensures { result ≡ spec.mode_of (section_of part.entry) key (view value.now) }
-{
-    let text = text_of(part, key, value)?;
-    match mode_in(text) {
-        Some(mode) => Ok(mode),
-        None => Err(SessionRefusal::Range(part.place, key)),
-    }
-}
-
-/// The mode at a key, manual where the key is absent.
-pub(crate) fn mode_or(part: Section<'_>, key: Key) -> Result<Mode, SessionRefusal>
-    ensures { result ≡ spec.mode_or (section_of part.entry) key }
-{
-    match value_at(part, key) {
-        None => Ok(Mode::Manual),
-        Some(value) => mode_of(part, key, value),
     }
 }

@@ -6,7 +6,7 @@ use session_model::Key;
 
 /// The word that a key is written as.
 #[tactic(auto, unfolding(crate::specs::Words::word))]
-pub(crate) fn word(key: Key) -> &'static str
+pub fn word(key: Key) -> &'static str
     ensures { result.now ≡ word key }
 {
     match key {
@@ -44,6 +44,8 @@ pub(crate) fn word(key: Key) -> &'static str
         Key::Opaque => "opaque",
         Key::FadeIn => "fade_in",
         Key::FadeOut => "fade_out",
+        Key::ShapeIn => "shape_in",
+        Key::ShapeOut => "shape_out",
         Key::Bus => "bus",
         Key::Master => "master",
     }

@@ -8,7 +8,9 @@ mod DepthLaws
 pub mod CycleLaws
 mod PlainLaws
 mod WalkLaws
+mod HeadLaws
 pub mod WrittenLaws
+mod ExtensibleLaws
 mod SoundLaws
 mod LayerLaws
 mod SilenceLaws

@@ -1,7 +1,7 @@
 -- What is said of the numbers of a sample, of fades and of lanes.
 use Rattle.std.specs.Prelude.{◌≡◌, ℕ, ◌+◌, ◌-◌, ◌<◌, ◌≤◌, min, max, ◌⊎◌, ℤ, true, List, [], ◌∷◌, ◌++◌}
 use Rattle.sound_model.specs.Numbers.{unity, scale, clip, file_sample, inner}
-use Rattle.sound_model.specs.Regions.{Region, fade}
+use Rattle.sound_model.specs.Regions.{Region, Linear, Slow, shaped, fade}
 use Rattle.sound_model.specs.Lanes.{Point, rises, lane_value}
 
 abbrev pub UnityChangesNothing : Type 0
@@ -34,6 +34,17 @@ FadeInBeginsSilent = (r : Region) → 0 < r.fade_in → fade r 0 ≡ 0
 
 abbrev pub FadeOutEndsSilent : Type 0
 FadeOutEndsSilent = (r : Region) → 0 < r.fade_out → r.fade_in + r.fade_out ≤ r.long → fade r (r.long - 1) ≡ 0
+
+-- a slow fade lies below the linear one of the same frames, and meets it in silence and at unity
+abbrev pub SlowLiesBelow : Type 0
+SlowLiesBelow = (v : ℕ) → v ≤ unity → shaped Slow v ≤ shaped Linear v
+
+abbrev pub SlowMeetsLinear : Type 0
+SlowMeetsLinear = (shaped Slow 0 ≡ shaped Linear 0) × (shaped Slow unity ≡ shaped Linear unity)
+
+-- of a region whose fades become slow: no fade value rises, and where one was 0 or unity it stays
+abbrev pub SlowFadesLieBelow : Type 0
+SlowFadesLieBelow = (r : Region) (i : ℕ) → fade (record r { shape_in = Slow; shape_out = Slow }) i ≤ fade (record r { shape_in = Linear; shape_out = Linear }) i
 
 -- ---- lanes
 

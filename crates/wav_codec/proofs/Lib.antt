@@ -3,3 +3,5 @@ pub mod Samples
 pub mod Pieces
 pub mod Walk
 pub mod Steps
+pub mod Formats
+pub mod Extensions

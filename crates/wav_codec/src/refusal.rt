@@ -13,9 +13,11 @@ pub enum WavRefusal {
     NoData,
     /// `data` stands before any `fmt `.
     NoFormat,
-    /// `fmt ` has this many bytes, fewer than 16, or the file ends within them.
+    /// `fmt ` has this many bytes: fewer than 16, or fewer than 40 with the tag 0xFFFE, or the file
+    /// ends within them.
     FormatShort(u32),
-    /// The tag isn't 1, which is PCM.
+    /// The tag is neither 1, which is PCM, nor 0xFFFE; or it is 0xFFFE, and the extension has
+    /// fewer than 22 bytes or a subformat that isn't PCM's.
     Format(u16),
     /// The channels aren't 1 to 8.
     Channels(u16),

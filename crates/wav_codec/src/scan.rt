@@ -1,4 +1,5 @@
-//! The head of a file, asked for piece by piece: 12 bytes, then 8 of each chunk and 16 of `fmt `.
+//! The head of a file, asked for piece by piece: 12 bytes, then 8 of each chunk and 16 of `fmt `,
+//! and 16 and 8 more of an extensible one.
 
 ghost use Rattle.std.specs.Prelude.{◌≡◌, ℕ, ◌^◌, ◌<◌, ◌≤◌, List};
 ghost use Rattle.wav_codec.specs.Info.{IsFound};
@@ -9,10 +10,12 @@ use crate::refusal::WavRefusal;
 use std::marker::Model;
 
 mod chunk;
+mod extension;
 mod format;
 mod start;
 
 use chunk::given_chunk;
+use extension::{given_extension, given_subformat};
 use format::{given_format, given_format_end};
 use start::given_start;
 
@@ -56,6 +59,20 @@ enum Stage {
         riff_size: u32,
         at: u64,
         chunk_size: u32,
+    },
+    // The size of its extension and half of the subformat.
+    Extension {
+        riff_size: u32,
+        at: u64,
+        chunk_size: u32,
+        fields: Fields,
+    },
+    // The other half of the subformat.
+    Subformat {
+        riff_size: u32,
+        at: u64,
+        chunk_size: u32,
+        fields: Fields,
     },
     // The last byte of that chunk, of a stream.
     FormatEnd {
@@ -106,6 +123,14 @@ impl Scan {
                 at: at + 8,
                 length: 16,
             },
+            Stage::Extension { at, .. } => Want {
+                at: at + 24,
+                length: 16,
+            },
+            Stage::Subformat { at, .. } => Want {
+                at: at + 40,
+                length: 8,
+            },
             Stage::FormatEnd { at, chunk_size, .. } => Want {
                 at: at + 7 + u64::from(chunk_size),
                 length: 1,
@@ -141,6 +166,18 @@ impl Scan {
                 at,
                 chunk_size,
             } => given_format(size, riff_size, at, chunk_size, bytes),
+            Stage::Extension {
+                riff_size,
+                at,
+                chunk_size,
+                fields,
+            } => given_extension(size, riff_size, at, chunk_size, fields, bytes),
+            Stage::Subformat {
+                riff_size,
+                at,
+                chunk_size,
+                fields,
+            } => given_subformat(size, riff_size, at, chunk_size, fields, bytes),
             Stage::FormatEnd {
                 riff_size,
                 at,

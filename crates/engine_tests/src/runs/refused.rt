@@ -1,8 +1,16 @@
 //! Exports that play nothing.
-use super::row::{A, BASE, DATA, EXPORT, Ends, FORMAT, HEAD, PARTS, REGION, RIFF, Row, SOUND};
+use super::row::{
+    A, BASE, DATA, EXPORT, Ends, FORM, FORMAT, HEAD, PARTS, REGION, RIFF, Row, SOUND,
+};
 use crate::bench::File;
 use session_run::FileRefusal;
 use wav_codec::WavRefusal;
+
+/// The base session with a block of no frames.
+pub(crate) const NO_BLOCK: File = File {
+    name: "s.toml",
+    parts: &[HEAD, b"block = 0\nbits = 16\n", PARTS, REGION],
+};
 
 pub(crate) const REFUSED: &[Row] = &[
     // two words are no command
@@ -47,10 +55,7 @@ pub(crate) const REFUSED: &[Row] = &[
     // a block of no frames
     Row {
         words: EXPORT,
-        files: &[File {
-            name: "s.toml",
-            parts: &[HEAD, b"block = 0\nbits = 16\n", PARTS, REGION],
-        }],
+        files: &[NO_BLOCK],
         bad_reads: &[],
         bad_writes: &[],
         ends: Ends::BlockRange,
@@ -125,6 +130,30 @@ pub(crate) const REFUSED: &[Row] = &[
         bad_writes: &[],
         ends: Ends::ReadFault,
         number: 4,
+        master: &[],
+        states: &[],
+        notes: &[],
+    },
+    // the shape of a fade in version 1
+    Row {
+        words: EXPORT,
+        files: &[
+            File {
+                name: "s.toml",
+                parts: &[
+                    HEAD,
+                    FORM,
+                    PARTS,
+                    REGION,
+                    b"fade_in = 4\nshape_in = \"slow\"\n",
+                ],
+            },
+            A,
+        ],
+        bad_reads: &[],
+        bad_writes: &[],
+        ends: Ends::UnknownInRegion,
+        number: 2,
         master: &[],
         states: &[],
         notes: &[],

@@ -10,10 +10,13 @@ pub(crate) enum Ends {
     Absent,
     /// Its block is out of range.
     BlockRange,
+    /// Its first region has a key that isn't known.
+    UnknownInRegion,
     /// The file of source a is refused.
     Source(FileRefusal),
     ReadFault,
     MasterFault,
+    OutFault,
     NotBuilt,
 }
 

@@ -1,7 +1,7 @@
 //! Texts that are read, field by field.
 use super::edited;
 use crate::parts::{gain, has_points};
-use ses_units::{Bits, Gain, Mode};
+use ses_units::{Bits, Gain, Mode, Shape};
 use session_model::{Region, Route, RouteKind, SendLink, SendList, Session, Track};
 use session_toml::session_of;
 use std::alloc::Global;
@@ -32,6 +32,8 @@ const BASE_REGION: Region = Region {
     opaque: true,
     fade_in: 0,
     fade_out: 0,
+    shape_in: Shape::Linear,
+    shape_out: Shape::Linear,
 };
 
 fn is_base_track(track: &Track) -> bool {
@@ -75,14 +77,16 @@ pub(crate) fn is_base(session: &Session) -> bool {
         && has_base_routes(session)
 }
 
-const FULL: &str = r#"4:bits = 24
+/// The base text with every key in other words.
+pub(super) const FULL: &str = r#"2:version = 2
+4:bits = 24
 5:channels = 2
 8:takes = "day_1"
 12:channels = 2
 16:channels = 2
 17:input = 6|solo = true|arm = true
 18:out = "b"|gain = 1|mute = true|left = 2|right = 3|mode = "play"|lane = [[5, 6], [7, 8]]|send = [{ to = "master", pre = true, gain = 9 }, { to = "c" }]
-23:at = 10|start = 11|layer = 12|gain = 13|opaque = false|fade_in = 3|fade_out = 5
+23:at = 10|start = 11|layer = 12|gain = 13|opaque = false|fade_in = 3|fade_out = 5|shape_in = "slow"|shape_out = "linear"
 24:[[bus]]|name = "b"|channels = 2|out = "c"|[[bus]]|name = "c"|channels = 2|mute = true|[master]|gain = 20|mute = true|mode = "play"|lane = [[0, 21]]"#;
 
 const FULL_REGION: Region = Region {
@@ -96,6 +100,8 @@ const FULL_REGION: Region = Region {
     opaque: false,
     fade_in: 3,
     fade_out: 5,
+    shape_in: Shape::Slow,
+    shape_out: Shape::Linear,
 };
 
 fn is_full_track(track: &Track) -> bool {
@@ -163,6 +169,14 @@ fn is_full(session: &Session) -> bool {
         }
 }
 
+fn is_bare(session: &Session) -> bool {
+    (
+        session.sources.len(),
+        session.tracks.len(),
+        session.routes.len(),
+    ) == (0, 0, 1)
+}
+
 fn is_largest(session: &Session) -> bool {
     for track in session.tracks.as_slice() {
         if !track.list.is_full() {
@@ -179,6 +193,7 @@ fn is_largest(session: &Session) -> bool {
 /// What a session has to be.
 pub(super) enum Form {
     Base,
+    Bare,
     Full,
     Largest,
 }
@@ -188,6 +203,7 @@ pub(super) fn is_read(alloc: Global, bytes: &[u8], form: &Form) -> bool {
     match session_of(alloc, bytes) {
         Ok(session) => match form {
             Form::Base => is_base(&session),
+            Form::Bare => is_bare(&session),
             Form::Full => is_full(&session),
             Form::Largest => is_largest(&session),
         },

@@ -86,11 +86,11 @@ cycle b
 // Several faults.
 pub(crate) const SEVERAL: (&str, usize) = (
     r#"range Session 1 0 Version
-2:version = 2
+2:version = 3
 3:rate = true
 
 unknown Session 1 0
-2:version = 2
+2:version = 3
 8:x = 1
 
 unknown Session 1 0

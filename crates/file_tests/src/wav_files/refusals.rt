@@ -48,16 +48,16 @@ const ROWS: &[(&[u8], WavRefusal)] = &[
         fmt \x12\0\0\0\x03\0\x01\0\x80\xbb\0\0\x07\0\0\0\x02\0\x10\0\x05",
         WavRefusal::FormatShort(18),
     ),
-    // Each with all that comes later wrong too.
+    // Each with all that comes later wrong too. The tag of an extensible format wants 40 bytes.
+    (
+        b"RIFF&\0\0\0WAVE\
+        fmt \x10\0\0\0\xfe\xff\x09\0\x01\0\0\0\x07\0\0\0\x01\0\x0c\0data\x02\0\0\0\0\0",
+        WavRefusal::FormatShort(16),
+    ),
     (
         b"RIFF&\0\0\0WAVE\
         fmt \x10\0\0\0\x03\0\x09\0\x01\0\0\0\x07\0\0\0\x01\0\x0c\0data\x02\0\0\0\0\0",
         WavRefusal::Format(3),
-    ),
-    (
-        b"RIFF&\0\0\0WAVE\
-        fmt \x10\0\0\0\xfe\xff\x09\0\x01\0\0\0\x07\0\0\0\x01\0\x0c\0data\x02\0\0\0\0\0",
-        WavRefusal::Format(65_534),
     ),
     (
         b"RIFF&\0\0\0WAVE\

@@ -115,7 +115,41 @@ range Region 1 1 FadeOut
 ok
 24:fade_in = 4|fade_out = 4
 
+unknown Region 1 1
+24:shape_in = "slow"
+
+unknown Region 1 1
+24:shape_out = "linear"
+
+ok
+2:version = 2
+24:shape_in = "linear"|shape_out = "slow"
+
+unknown Region 1 1
+2:version = 2
+24:shape = "slow"
+
+kind Region 1 1 ShapeIn
+2:version = 2
+24:shape_in = 1|shape_out = 1
+
+range Region 1 1 ShapeIn
+2:version = 2
+24:shape_in = "fast"
+
+kind Region 1 1 ShapeOut
+2:version = 2
+24:shape_out = true
+
+range Region 1 1 ShapeOut
+2:version = 2
+24:shape_out = "Slow"
+
+range Region 1 1 FadeOut
+2:version = 2
+24:fade_out = 9|shape_in = 1
+
 missing Region 1 2 Id
 24:[[track.region]]"#,
-    38,
+    47,
 );

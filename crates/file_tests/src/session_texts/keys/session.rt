@@ -78,6 +78,9 @@ range Session 1 0 Version
 2:version = 0
 
 range Session 1 0 Version
+2:version = 3
+
+ok
 2:version = 2
 
 missing Session 1 0 Rate
@@ -219,5 +222,5 @@ range Source 1 0 Channels
 
 range Source 1 0 Channels
 12:channels = 3"#,
-    61,
+    62,
 );

@@ -1,8 +1,8 @@
 -- The words looked at so far, with those to come, are all of them.
-use Rattle.std.proofs.Common.{◌≡◌, map, drop}
-use Rattle.session_opening.specs.Words.{positional, three}
-use Rattle.session_opening.specs.Spoken.{words_with}
+use Rattle.std.proofs.Common.{◌≡◌, drop}
+use Rattle.session_opening.specs.Words.{few, positional}
+use Rattle.session_opening.specs.Spoken.{texts, words_with}
 use Rattle.session_opening.proofs.words.positional.Given as goal
 
 abbrev pub invariant-loop-word : goal.invariant-loop-word
-invariant-loop-word l = three (positional (map (λ w. w.now) l.words)) ≡ three (words_with l.all (map (λ w. w.now) (drop l.word-index l.words)))
+invariant-loop-word l = few (positional (texts l.words)) ≡ few (words_with l.all (texts (drop l.word-index l.words)))

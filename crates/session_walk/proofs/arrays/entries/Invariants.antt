@@ -7,7 +7,7 @@ use Rattle.session_walk.proofs.arrays.entries.Given as goal
 
 abbrev pub invariant-loop-i : goal.invariant-loop-i
 invariant-loop-i g l = record {
-  entries : entries_from g.T.Entry.says l.base 1 (map (λ t. table_view t.now) (take l.i l.rows)) ≡ Ok l.all.items;
+  entries : entries_from (g.T.Entry.says l.version) l.base 1 (map (λ t. table_view t.now) (take l.i l.rows)) ≡ Ok l.all.items;
   many : length l.all.items ≡ l.i;
   room : l.all.room ≡ l.room;
 }

@@ -1,5 +1,6 @@
 use Rattle.std.proofs.Common.{◌∙◌, arith}
-use Rattle.wav_codec.proofs.Steps.{Given, no_chunk, size_given, data_here, skipped, short_format, format_asked}
+use Rattle.wav_codec.proofs.Steps.{Given, no_chunk, size_given, data_here, skipped}
+use Rattle.wav_codec.proofs.Formats.{short_format, format_asked}
 use Rattle.wav_codec.proofs.scan.chunk.given_chunk.Goals as goal
 
 pub returns-then-bytes-lt8-clause-answer : goal.returns-then-bytes-lt8-clause-answer
@@ -30,4 +31,4 @@ pub returns-else-chunk_size-lt16-clause-answer : goal.returns-else-chunk_size-lt
 returns-else-chunk_size-lt16-clause-answer c b agrees taken =
     let given : Given c.args.size c.args.riff_size c.args.at c.args.form b c.args.bytes.now =
     record { agrees = agrees; reached = c.requires.place; inside = c.requires.inside; taken = taken; whole = omega arith } in
-    format_asked _ _ _ _ _ _ _ given c.in-FirstFormat.ensures.0 c.in-FirstFormat.ensures.1 c.size_field-chunk_size.ensures (omega arith)
+    format_asked _ _ _ _ _ _ _ given c.in-FirstFormat.ensures.0 c.in-FirstFormat.ensures.1 c.size_field-chunk_size.ensures

@@ -1,4 +1,4 @@
-use Rattle.wav_codec.proofs.Steps.{format_read}
+use Rattle.wav_codec.proofs.Formats.{format_read}
 use Rattle.wav_codec.proofs.scan.format.after_format.Goals as goal
 
 pub returns-clause-answer : goal.returns-clause-answer

@@ -1,31 +1,25 @@
-use Rattle.std.proofs.Common.{◌≡◌, ◌+◌, length, sym, subst, arith}
-use Rattle.std.specs.Prelude.{is_some}
-use Rattle.wav_codec.specs.Progress.{Agrees, HasSize}
-use Rattle.wav_codec.specs.Step.{AnswersFor}
-use Rattle.wav_codec.specs.declared.scan.Stage.TheVariants.{FormatEnd}
+use Rattle.std.proofs.Common.{◌+◌, sym, ◌∙◌, arith}
 use Rattle.wav_codec.proofs.Pieces.{whole_piece}
-use Rattle.wav_codec.proofs.Steps.{cut_format, fields_given}
+use Rattle.wav_codec.proofs.Formats.{cut_format, plain_fields, extensible_short, extensible_fields}
 use Rattle.wav_codec.proofs.scan.format.given_format.Goals as goal
 
 pub returns-in_default-clause-answer : goal.returns-in_default-clause-answer
 returns-in_default-clause-answer c b agrees taken =
     cut_format c.args.size c.args.riff_size c.args.at c.args.chunk_size b c.args.bytes.now agrees c.requires.fields taken c.in_default.ensures
 
-pub returns-then-chunk_size-eq16-clause-answer : goal.returns-then-chunk_size-eq16-clause-answer
-returns-then-chunk_size-eq16-clause-answer c b agrees taken =
-    let whole = whole_piece 16 (c.args.at + 8) b c.args.bytes.now taken (omega (arith, c.in-Some.ensures.0)) (omega arith) in
-    c.after_format-then-chunk_size-eq16.ensures.answer b
-    (fields_given c.args.size c.args.riff_size c.args.at c.args.chunk_size b c.args.bytes.now c.in-Some.fields agrees taken c.in-Some.ensures.1)
-    (omega arith)
+pub returns-then-not-is_extensible-clause-answer : goal.returns-then-not-is_extensible-clause-answer
+returns-then-not-is_extensible-clause-answer c b agrees taken =
+    c.fields_given.ensures.answer b
+    (plain_fields _ _ _ _ b c.args.bytes.now c.in-Some.fields agrees c.requires.fields (record { taken = taken; given = c.in-Some.ensures.1 })
+    (sym c.is_extensible.ensures ∙ c.if-not-is_extensible.true))
+    (whole_piece 16 (c.args.at + 8) b c.args.bytes.now taken (omega (arith, c.in-Some.ensures.0)) (omega arith))
 
-pub returns-else-told-at-clause-answer : goal.returns-else-told-at-clause-answer
-returns-else-told-at-clause-answer c b agrees taken =
-    let size : length b ≡ c.in-Some-size.told = subst (λ s. HasSize s b) c.in-Some-size.is agrees.size in
-    subst (λ s. Agrees (record { size = s; stage = FormatEnd c.args.riff_size c.args.at c.args.chunk_size c.in-Some.fields }) b
-    → AnswersFor (is_some s) b c.after_format.result) (sym c.in-Some-size.is)
-    (λ given. c.after_format.ensures.answer b given (omega arith))
-    (fields_given c.args.size c.args.riff_size c.args.at c.args.chunk_size b c.args.bytes.now c.in-Some.fields agrees taken c.in-Some.ensures.1)
+pub returns-then-chunk_size-lt-EXTENSIBLE_SIZE-clause-answer : goal.returns-then-chunk_size-lt-EXTENSIBLE_SIZE-clause-answer
+returns-then-chunk_size-lt-EXTENSIBLE_SIZE-clause-answer c b agrees taken =
+    extensible_short _ _ _ _ b c.args.bytes.now c.in-Some.fields agrees (record { taken = taken; given = c.in-Some.ensures.1 })
+    (sym c.is_extensible.ensures ∙ c.if-not-is_extensible.false) c.if-chunk_size-lt-EXTENSIBLE_SIZE.true
 
-pub returns-else-chunk_size-eq16-clause-answer : goal.returns-else-chunk_size-eq16-clause-answer
-returns-else-chunk_size-eq16-clause-answer c b agrees taken =
-    fields_given c.args.size c.args.riff_size c.args.at c.args.chunk_size b c.args.bytes.now c.in-Some.fields agrees taken c.in-Some.ensures.1
+pub returns-clause-answer : goal.returns-clause-answer
+returns-clause-answer c b agrees taken =
+    extensible_fields _ _ _ _ b c.args.bytes.now c.in-Some.fields agrees (record { taken = taken; given = c.in-Some.ensures.1 })
+    (sym c.is_extensible.ensures ∙ c.if-not-is_extensible.false) c.if-chunk_size-lt-EXTENSIBLE_SIZE.false

@@ -1,0 +1,164 @@
+//! Migrates that are refused or fail, and sessions that a migrate keeps as they are.
+use super::refused::NO_BLOCK;
+use super::row::{A, BASE, EXPORT, Ends, FORM, HEAD, PARTS, REGION, Row};
+use crate::bench::File;
+
+const MIGRATE: &[&str] = &["migrate", "s.toml"];
+
+/// What ends before a text is whole.
+pub(crate) const MIGRATED: &[Row] = &[
+    // a migrate of no session
+    Row {
+        words: &["migrate"],
+        files: &[BASE],
+        bad_reads: &[],
+        bad_writes: &[],
+        ends: Ends::Usage,
+        number: 1,
+        master: &[],
+        states: &[],
+        notes: &[],
+    },
+    // of two words
+    Row {
+        words: &["migrate", "s.toml", "t.toml"],
+        files: &[BASE],
+        bad_reads: &[],
+        bad_writes: &[],
+        ends: Ends::Usage,
+        number: 1,
+        master: &[],
+        states: &[],
+        notes: &[],
+    },
+    // of a path
+    Row {
+        words: &["migrate", "../s.toml"],
+        files: &[BASE],
+        bad_reads: &[],
+        bad_writes: &[],
+        ends: Ends::Usage,
+        number: 1,
+        master: &[],
+        states: &[],
+        notes: &[],
+    },
+    // with an option
+    Row {
+        words: &["migrate", "-s", "s.toml"],
+        files: &[BASE],
+        bad_reads: &[],
+        bad_writes: &[],
+        ends: Ends::Usage,
+        number: 1,
+        master: &[],
+        states: &[],
+        notes: &[],
+    },
+    // of an absent session
+    Row {
+        words: MIGRATE,
+        files: &[],
+        bad_reads: &[],
+        bad_writes: &[],
+        ends: Ends::Absent,
+        number: 2,
+        master: &[],
+        states: &[],
+        notes: &[],
+    },
+    // of a block of no frames
+    Row {
+        words: MIGRATE,
+        files: &[NO_BLOCK],
+        bad_reads: &[],
+        bad_writes: &[],
+        ends: Ends::BlockRange,
+        number: 2,
+        master: &[],
+        states: &[],
+        notes: &[],
+    },
+    // the same behind the marker
+    Row {
+        words: &["migrate", "--", "s.toml"],
+        files: &[NO_BLOCK],
+        bad_reads: &[],
+        bad_writes: &[],
+        ends: Ends::BlockRange,
+        number: 2,
+        master: &[],
+        states: &[],
+        notes: &[],
+    },
+    // of a session that fails to be read
+    Row {
+        words: MIGRATE,
+        files: &[BASE],
+        bad_reads: &[("s.toml", 0)],
+        bad_writes: &[],
+        ends: Ends::ReadFault,
+        number: 4,
+        master: &[],
+        states: &[],
+        notes: &[],
+    },
+    // a migrate whose out fails
+    Row {
+        words: MIGRATE,
+        files: &[BASE],
+        bad_reads: &[],
+        bad_writes: &[1],
+        ends: Ends::OutFault,
+        number: 9,
+        master: &[],
+        states: &[],
+        notes: &[],
+    },
+];
+
+/// Sessions that are valid, and in a form that isn't built: a migrate keeps them so.
+pub(crate) const UNBUILT: &[Row] = &[
+    // a fade in
+    Row {
+        words: EXPORT,
+        files: &[
+            File {
+                name: "s.toml",
+                parts: &[HEAD, FORM, PARTS, REGION, b"fade_in = 4\n"],
+            },
+            A,
+        ],
+        bad_reads: &[],
+        bad_writes: &[],
+        ends: Ends::NotBuilt,
+        number: 20,
+        master: &[],
+        states: &[],
+        notes: &[],
+    },
+    // a slow one
+    Row {
+        words: EXPORT,
+        files: &[
+            File {
+                name: "s.toml",
+                parts: &[
+                    b"[session]\nversion = 2\nrate = 48000\nchannels = 1\ndepth = 2\n",
+                    FORM,
+                    PARTS,
+                    REGION,
+                    b"fade_in = 4\nshape_in = \"slow\"\n",
+                ],
+            },
+            A,
+        ],
+        bad_reads: &[],
+        bad_writes: &[],
+        ends: Ends::NotBuilt,
+        number: 20,
+        master: &[],
+        states: &[],
+        notes: &[],
+    },
+];

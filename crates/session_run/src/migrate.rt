@@ -1,0 +1,54 @@
+//! `migrate`: the session of a file is written to out as a text of version 2.
+ghost use Rattle.std.specs.Prelude.{Some};
+ghost use Rattle.ses_io.specs.Outside.{OnlyReads};
+ghost use Rattle.session_opening.specs.Plan.{read_session};
+ghost use Rattle.session_opening.specs.Words.{ToMigrate};
+ghost use Rattle.session_run.specs.Status.{EndsWith, IsOfMigrate, ReadsFailed, WritesFailed};
+ghost use Rattle.session_run.specs.Migrated.{IsMigrated};
+ghost use Rattle.session_run.specs.Headline.{Does};
+
+use crate::ending::status_of;
+use crate::outcome::{Outcome, unplayed};
+use cycle_journal::Status;
+use ses_io::{Media, Sink, World, write_all};
+use session_opening::{Unopened, read_session};
+use session_text::text_of_session;
+use std::alloc::Global;
+
+// Writes the session of the file to out; the status says what came of it.
+fn rewrite<M: Media, O: Sink>(alloc: Global, media: &mut M, out: &mut O, name: &str) -> Status
+    ensures ends { M.outside.tells
+        → EndsWith Status.OutFault (read_session (M.outside.files media.old name.now)) result }
+    ensures status { IsOfMigrate result }
+    ensures written { IsMigrated M.outside O.outside name.now media.old out.old out.new result }
+    ensures reads { ReadsFailed (M.outside.read_faults media.old)
+        (M.outside.read_faults media.new) result }
+    ensures writes { WritesFailed Status.OutFault (O.outside.faults out.old)
+        (O.outside.faults out.new) result }
+    ensures only_reads { OnlyReads M.outside media.old media.new }
+{
+    let session = match read_session(alloc, media, name) {
+        Ok(session) => session,
+        Err(why) => return status_of(Unopened::from(why)),
+    };
+    let Ok(text) = text_of_session(alloc, &session) else {
+        return Status::NoMemory;
+    };
+    match write_all(out, text.as_slice()) {
+        Ok(()) => Status::Done,
+        Err(_) => Status::OutFault,
+    }
+}
+
+/// Reads the session of the file and writes it to out.
+pub(crate) fn migrate<M: Media, I, C, W: Sink, O: Sink>(
+    alloc: Global,
+    name: &str,
+    world: World<M, I, C, W, O>,
+) -> Outcome<M, I, C, W, O>
+    ensures { Does M.outside W.outside O.outside world (Some (ToMigrate name.now)) result }
+{
+    let mut world = world;
+    let status = rewrite(alloc, &mut world.media, &mut world.out, name);
+    unplayed(alloc, status, world)
+}

@@ -1,0 +1,20 @@
+-- The proofs, step by step.
+pub mod KeyLaws
+pub mod LaneLaws
+pub mod ArrayLaws
+pub mod PartLaws
+pub mod RouteLaws
+pub mod DocumentLaws
+pub mod ListLaws
+pub mod NameLaws
+pub mod DeskLaws
+pub mod SaidLaws
+pub mod RuleLaws
+pub mod BuiltLaws
+pub mod SessionLaws
+pub mod SoundLaws
+pub mod TableLaws
+pub mod CodeLaws
+pub mod PairLaws
+pub mod WithinLaws
+pub mod DepthLaws
