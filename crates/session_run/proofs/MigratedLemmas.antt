@@ -4,13 +4,12 @@ use Rattle.std.specs.Prelude.{Ok}
 use Rattle.ses_io.specs.Outside.{MediaOutside, SinkOutside}
 use Rattle.ses_io.specs.Streams.{AppendsSome}
 use Rattle.session_model.specs.declared.session.Session.{Session}
-use Rattle.cycle_journal.specs.declared.status.Status.{Status}
 use Rattle.cycle_journal.specs.declared.status.Status.TheVariants.{Done, OutFault}
 use Rattle.session_walk.specs.Section.{Read}
 use Rattle.session_walk.specs.Text.{document}
-use Rattle.session_opening.specs.Answers.{IsRead}
 use Rattle.session_toml.specs.Session.{session as read_as}
 use Rattle.session_text.specs.Session.{as_read, session_table}
+use Rattle.session_opening.specs.Answers.{IsRead}
 use Rattle.session_text.proofs.SessionLaws.{read_sessions_stay}
 use Rattle.session_run.specs.Migrated.{IsOfFile, IsTextOf, IsMigrated}
 
@@ -18,10 +17,6 @@ done_fails : Done ≡ OutFault → ⊥
 done_fails is = cc
 
 module _ {M O : Type 0} (media : MediaOutside M) (out : SinkOutside O) (name : List ℕ) (before : M) (old new : O) where
-  -- nothing was written
-  pub unwritten : (s : Status) → (s ≡ Done → ⊥) → (s ≡ OutFault → ⊥) → new ≡ old → IsMigrated media out name before old new s
-  unwritten s not_done not_cut same = record { done = λ t is. absurd (not_done is); cut_off = λ t is. absurd (not_cut is); nothing = λ _ _. same }
-
   module _ (s : Session) (read : IsRead s) (of_file : IsOfFile media before name s) (text : List ℕ) (back : read_as text ≡ Ok (as_read s)) (keys : document text ≡ Ok (session_table s)) where
     is_text : IsTextOf s text
     is_text = record { reads = back ∙ (let f : Session → Read Session = λ t. Ok t in ap f (read_sessions_stay read.0 s read.1)); keys = keys }
