@@ -20,10 +20,10 @@ use Rattle.engine_model.specs.Played.{samples_of, piece_samples, IsGenuine, IsGe
 use Rattle.engine_laws.specs.Kept.{Kept, is_from}
 use Rattle.engine_laws.specs.PlayedLaws.{IsNamed}
 use Rattle.engine_laws.proofs.NumberLemmas.{last_in}
-use Rattle.engine_laws.proofs.PlayedLemmas.{session_stands, genuine_stays}
+use Rattle.engine_laws.proofs.PlayedLemmas.{genuine_stays}
 use Rattle.locate_loop.specs.Transport.{transport_of}
 use Rattle.edition_log.specs.EditionState.{EditionState as Edition, IsEditionOf}
-use Rattle.edition_log.proofs.PlayLaws.{editions_play_their_places}
+use Rattle.edition_log.proofs.PlayLaws.{editions_play_their_places, stands_at}
 use Rattle.piece_item.specs.declared.item.Item.{Item}
 use Rattle.piece_item.specs.Views.{kind_of, item_of}
 use Rattle.butler.specs.Sends.{kinds}
@@ -74,7 +74,7 @@ module _ (sounds : Sounds) (s : Session) where
     same_frame : (n c : ℕ) → track_sample sounds (track_regions e.session t) c (place_of (transport_of e.transport) n)
         ≡ samples_of sounds s e.edits t (playlist_edition s e.edits t (length e.edits)) c (place e.edits (generation e.edits (length e.edits)) n)
     same_frame n c = ap (λ z. track_sample sounds (track_regions z t) c (place_of (transport_of e.transport) n))
-        (session_is s e is ∙ sym (session_stands s e.edits (playlist_edition s e.edits t (length e.edits))))
+        (session_is s e is ∙ sym (stands_at s e (playlist_edition s e.edits t (length e.edits)) is))
         ∙ ap (λ x. samples_of sounds s e.edits t (playlist_edition s e.edits t (length e.edits)) c x) ((editions_play_their_places s e is).places n)
 
     one_more : (n : ℕ) → n ≡ n * 1

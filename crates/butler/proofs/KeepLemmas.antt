@@ -16,9 +16,8 @@ use Rattle.sound_model.specs.Numbers.{unity}
 use Rattle.engine_model.specs.Edits.{generation}
 use Rattle.engine_model.specs.Due.{Ack, needs, next_block}
 use Rattle.engine_model.specs.PlainSession.{has_16_bits, is_plain, is_plain_route, is_plain_track, is_at_unity, leads_plainly, is_manual, has_no_point, sends_nothing}
-use Rattle.engine_laws.proofs.PlayedLemmas.{session_stands}
 use Rattle.edition_log.specs.EditionState.{EditionState as Edition, IsEditionOf}
-use Rattle.edition_log.proofs.PlayLaws.{editions_play_their_places}
+use Rattle.edition_log.proofs.PlayLaws.{editions_play_their_places, stands_at}
 use Rattle.disk_ring.specs.Receiver.{GoesOnOut}
 use Rattle.butler.specs.declared.supply.TrackSupply.{TrackSupply}
 use Rattle.butler.specs.SendProgress.{needs_of, target_of}
@@ -59,7 +58,7 @@ one_channel s t plain valid near = let master = valid.formed.limits.master in el
 
 module _ (s : Session) (e : Edition) (is : IsEditionOf s e) where
   pub session_is : e.session ≡ s
-  session_is = ap (λ x. x.session) is.state ∙ session_stands s e.edits (length e.edits)
+  session_is = ap (λ x. x.session) is.state ∙ stands_at s e (length e.edits) is
 
   pub generation_is : e.transport.generation ≡ generation e.edits (length e.edits)
   generation_is = (editions_play_their_places s e is).counted

@@ -1,3 +1,3 @@
 -- An edition stays the state after its edits.
-pub mod KeepLemmas
 pub mod PlayLaws
+pub mod KeepLemmas

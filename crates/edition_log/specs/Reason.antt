@@ -1,5 +1,5 @@
 -- Refusals as the definitions of the engine have them.
-use Rattle.engine_model.specs.Editions as engine
+use Rattle.engine_model.specs.Refusals as engine
 use Rattle.edition_log.specs.declared.reason.Bound.{Bound}
 use Rattle.edition_log.specs.declared.reason.Bound.TheVariants.{Edits, Points, Sends, Regions}
 use Rattle.edition_log.specs.declared.reason.Refusal.{Refusal}

@@ -1,52 +1,22 @@
 -- What an edit does to an edition.
-use Rattle.std.specs.Prelude.{◌≡◌, ◌<◌, ◌^◌, ℕ, Bool, true, false, [], ◌∷◌, ◌++◌, Some, None, Result, Ok, Err}
+use Rattle.std.specs.Prelude.{◌≡◌, ◌<◌, ◌^◌, ℕ, [], ◌∷◌, ◌++◌, Result, Ok, Err, IsOk}
 use Rattle.session_model.specs.declared.edit.Edit.{Edit}
 use Rattle.session_model.specs.declared.edit.Edit.TheVariants.{Roll, Stop, Quit, Recording, Locate, Loop, LoopOff, Arm, Solo, Mute, Gain, Pan, Mode, Point, Unpoint, Connect, Send, Unsend, Add, Remove, Move, Trim, Layer, Opaque, RegionGain, Fade, Shape}
-use Rattle.engine_model.specs.Editions.{apply, refusal}
+use Rattle.engine_model.specs.Editions.{apply}
 use Rattle.edition_log.specs.declared.reason.Refusal.{Refusal}
 use Rattle.edition_log.specs.Reason.{refusal_of}
 use Rattle.edition_log.specs.EditionState.{EditionState, state_of}
-
--- the edits that are carried out so far; each that joins drops its case
-abbrev pub is_built : Edit → Bool
-is_built Roll = true
-is_built Stop = false
-is_built Quit = false
-is_built (Recording on) = false
-is_built (Locate to) = true
-is_built (Loop from to) = false
-is_built LoopOff = false
-is_built (Arm track on) = false
-is_built (Solo track on) = false
-is_built (Mute route on) = false
-is_built (Gain route gain) = false
-is_built (Pan route left right) = false
-is_built (Mode route mode) = false
-is_built (Point route at gain) = false
-is_built (Unpoint route at) = false
-is_built (Connect route target) = false
-is_built (Send route target pre gain) = false
-is_built (Unsend route target) = false
-is_built (Add track id source start long at layer) = false
-is_built (Remove track id) = false
-is_built (Move track id at) = false
-is_built (Trim track id start long) = false
-is_built (Layer track id layer) = false
-is_built (Opaque track id on) = false
-is_built (RegionGain track id gain) = false
-is_built (Fade track id fade_in fade_out) = false
-is_built (Shape track id shape_in shape_out) = false
 
 -- What `apply` leaves: the next state with the edit at the list's end, or the first refusal and nothing changed.
 abbrev pub Applies : EditionState → Edit → Result ℕ Refusal → EditionState → Type 0
 Applies old edit (Ok number) new = (apply (state_of old) edit ≡ Ok (state_of new)) × (number ≡ (state_of new).number)
     × (new.edits ≡ old.edits ++ edit ∷ []) × (new.ended ≡ old.ended)
-Applies old edit (Err why) new = (refusal (state_of old) edit ≡ Some (refusal_of why)) × (new ≡ old)
+Applies old edit (Err why) new = (apply (state_of old) edit ≡ Err (refusal_of why)) × (new ≡ old)
 
--- What `admits` answers: the refusal that `apply` would give.
+-- What `admits` answers: that the edit is accepted, or the refusal that `apply` would give.
 abbrev pub Admits : EditionState → Edit → Result (Unit {0}) Refusal → Type 0
-Admits e edit (Ok _) = refusal (state_of e) edit ≡ None
-Admits e edit (Err why) = refusal (state_of e) edit ≡ Some (refusal_of why)
+Admits e edit (Ok _) = IsOk (apply (state_of e) edit)
+Admits e edit (Err why) = apply (state_of e) edit ≡ Err (refusal_of why)
 
 -- the places of an edit that is accepted lie before 2^40
 abbrev pub HasNearPlace : Edit → Type 0

@@ -4,7 +4,8 @@ ghost use Rattle.session_model.specs.declared.session.Session.{Session as Openin
 ghost use Rattle.session_model.specs.Valid.{IsValid};
 ghost use Rattle.locate_loop.specs.Transport.{IsTransport};
 ghost use Rattle.edition_log.specs.EditionState.{EditionState, IsEditionState, IsOpen, IsEditionOf};
-ghost use Rattle.edition_log.specs.Steps.{is_built, Applies, Admits};
+ghost use Rattle.edition_log.specs.Built.{is_built};
+ghost use Rattle.edition_log.specs.Steps.{Applies, Admits};
 
 use crate::moving::moved;
 use crate::reason::{Bound, Refusal};

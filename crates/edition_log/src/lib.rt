@@ -7,5 +7,5 @@ mod moving;
 mod reason;
 
 pub use edition::Edition;
-pub use laws::editions_play_their_places;
+pub use laws::{built_edits_leave_the_session, editions_play_their_places};
 pub use reason::{Bound, Refusal};

@@ -1,9 +1,9 @@
 //! What accepted edits do to the transport.
 ghost use Rattle.std.specs.Prelude.{◌≡◌, ◌+◌, ◌<◌, ◌≤◌, ◌^◌, IsTrue, None};
-ghost use Rattle.engine_model.specs.Editions.{why_not};
 ghost use Rattle.engine_model.specs.Transport.{moved};
 ghost use Rattle.locate_loop.specs.Transport.{transport_of, IsTransport};
-ghost use Rattle.edition_log.specs.Steps.{is_built, HasNearPlace};
+ghost use Rattle.edition_log.specs.Built.{is_built};
+ghost use Rattle.edition_log.specs.Steps.{HasNearPlace};
 
 use locate_loop::Transport;
 use session_model::Edit;

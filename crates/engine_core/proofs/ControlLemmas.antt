@@ -1,6 +1,6 @@
 -- What the lines of an export come to.
 use Rattle.std.proofs.Common.{◌≡◌, ℕ, List, [], ◌∷◌, ◌++◌, length, refl, sym, ap, subst, ◌∙◌}
-use Rattle.std.specs.Prelude.{Bool, true, false, if◌then◌else◌, is_ok, Option, Some, None, Result, Ok, Err}
+use Rattle.std.specs.Prelude.{Bool, true, false, if◌then◌else◌, is_ok, IsOk, Result, Ok, Err}
 use Rattle.std.proofs.lemmas.Bool.{true≢false}
 use Rattle.session_model.specs.declared.session.Session.{Session}
 use Rattle.session_model.specs.declared.edit.Edit.{Edit}
@@ -8,13 +8,15 @@ use Rattle.session_model.specs.declared.edit.Edit.TheVariants.{Roll, Locate}
 use Rattle.engine_model.specs.Edits.{playlist_edition}
 use Rattle.engine_model.specs.Transport as engine
 use Rattle.engine_model.specs.Transport.{moved}
+use Rattle.engine_model.specs.Refusals.{Checked}
 use Rattle.engine_model.specs.Editions as engine_editions
-use Rattle.engine_model.specs.Editions.{apply, changed, edition, refusal, unless_refused}
+use Rattle.engine_model.specs.Editions.{apply, changed, edition}
+use Rattle.engine_laws.proofs.SessionLemmas.{accepted_makes}
 use Rattle.engine_model.specs.Plain.{Run, accepted, export_commands, plain_from, with_edit, Do}
 use Rattle.edition_log.specs.declared.reason.Refusal.{Refusal}
-use Rattle.edition_log.specs.Reason.{refusal_of}
 use Rattle.edition_log.specs.EditionState.{EditionState as Edition, IsEditionOf, IsOpen, state_of}
-use Rattle.edition_log.specs.Steps.{Applies, is_built}
+use Rattle.edition_log.specs.Built.{is_built}
+use Rattle.edition_log.specs.Steps.{Applies}
 use Rattle.engine_core.specs.Control.{IsControlled, Obeys, edits_after}
 
 -- ---- one line
@@ -25,13 +27,12 @@ keeps_on t Roll built = (refl, refl)
 keeps_on t (Locate to) built = (refl, refl)
 keeps_on t _ built = absurd (true≢false (sym built))
 
-was_changed : (o : Option engine_editions.Refusal) (next e : engine_editions.Edition) → unless_refused o next ≡ Ok e → e ≡ next
-was_changed None next e is = cc
-was_changed (Some why) next e is = cc
+same_ok : (m : Checked engine_editions.Edition) (e next : engine_editions.Edition) → m ≡ Ok e → m ≡ Ok next → e ≡ next
+same_ok m e next is also_is = cc
 
-was_refused : (o : Option engine_editions.Refusal) (why : engine_editions.Refusal) (next : engine_editions.Edition) → o ≡ Some why → is_ok (unless_refused o next) ≡ false
-was_refused None why next is = cc
-was_refused (Some w) why next is = refl
+-- what the transport does after an accepted edit
+goes_on : (e next : engine_editions.Edition) (edit : Edit) → apply e edit ≡ Ok next → next.transport ≡ moved e.transport edit
+goes_on e next edit is = let makes = accepted_makes e edit (subst IsOk (sym is) refl) in ap (λ x. x.transport) (same_ok (apply e edit) next (changed e edit makes.0) is makes.2)
 
 taken : (s : Session) (e : Edition) (edit : Edit) → IsEditionOf s e → is_ok (apply (state_of e) edit) ≡ true → edits_after s e.edits edit ≡ e.edits ++ edit ∷ []
 taken s e edit is ok = ap (λ b. if b then e.edits ++ edit ∷ [] else e.edits) (ap (λ x. is_ok (apply x edit)) (sym is.state) ∙ ok)
@@ -43,18 +44,18 @@ pub obeyed : (s : Session) (old : Edition) (edit : Edit) (answer : Result ℕ Re
 obeyed s old edit (Ok number) new was now step = record { edition_of = now; edits = step.2 ∙ sym (taken s old edit was (ap is_ok step.0)) }
 obeyed s old edit (Err why) new was now step = record {
   edition_of = now;
-  edits = ap (λ e. e.edits) step.1 ∙ sym (not_taken s old edit was (was_refused (refusal (state_of old) edit) (refusal_of why) (changed (state_of old) edit) step.0));
+  edits = ap (λ e. e.edits) step.1 ∙ sym (not_taken s old edit was (ap is_ok step.0));
 }
 
 pub still_open : (old : Edition) (edit : Edit) (answer : Result ℕ Refusal) (new : Edition) → is_built edit ≡ true → IsOpen old → Applies old edit answer new → IsOpen new
 still_open old edit (Ok number) new built open_before step = record {
   ended = step.3 ∙ open_before.ended;
-  quit = ap (λ e. e.transport.quit) (was_changed (refusal (state_of old) edit) (changed (state_of old) edit) (state_of new) step.0) ∙ (keeps_on (state_of old).transport edit built).1 ∙ open_before.quit;
+  quit = ap (λ t. t.quit) (goes_on (state_of old) (state_of new) edit step.0) ∙ (keeps_on (state_of old).transport edit built).1 ∙ open_before.quit;
 }
 still_open old edit (Err why) new built open_before step = subst IsOpen (sym step.1) open_before
 
 pub records_as_before : (old : Edition) (edit : Edit) (answer : Result ℕ Refusal) (new : Edition) → is_built edit ≡ true → Applies old edit answer new → new.transport.recording ≡ old.transport.recording
-records_as_before old edit (Ok number) new built step = ap (λ e. e.transport.recording) (was_changed (refusal (state_of old) edit) (changed (state_of old) edit) (state_of new) step.0)
+records_as_before old edit (Ok number) new built step = ap (λ t. t.recording) (goes_on (state_of old) (state_of new) edit step.0)
     ∙ (keeps_on (state_of old).transport edit built).0
 records_as_before old edit (Err why) new built step = ap (λ e. e.transport.recording) step.1
 

@@ -2,7 +2,7 @@
 ghost use Rattle.std.specs.Prelude.{◌≡◌, [], IsTrue};
 ghost use Rattle.engine_core.specs.Begun.{Begun};
 ghost use Rattle.edition_log.specs.EditionState.{IsEditionOf, IsOpen};
-ghost use Rattle.edition_log.specs.Steps.{is_built};
+ghost use Rattle.edition_log.specs.Built.{is_built};
 ghost use Rattle.engine_core.specs.Control.{Obeys, IsControlled};
 
 use edition_log::Edition;

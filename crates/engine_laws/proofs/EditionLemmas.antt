@@ -2,16 +2,18 @@
 use Rattle.std.proofs.lemmas.Bool.{cases_lt}
 use Rattle.std.proofs.lemmas.Option.{slice_get_within}
 use Rattle.std.proofs.Common.{◌≡◌, inl, inr, true≢false, ℕ, zero, suc, ◌+◌, ◌<◌, ◌≤◌, List, [], ◌∷◌, ◌++◌, length, take, refl, sym, ap, subst, arith, ◌∙◌}
-use Rattle.std.specs.Prelude.{Bool, true, false, if◌then◌else◌, Option, Some, None, slice_get, IsOk}
+use Rattle.std.specs.Prelude.{Bool, true, false, if◌then◌else◌, Some, slice_get, IsOk}
 use Rattle.std.specs.Option.{option_map_or}
 use Rattle.session_model.specs.declared.edit.Edit.TheVariants.{Roll, Stop, Quit, Recording, Locate, Loop, LoopOff}
 use Rattle.session_model.specs.declared.edit.Edit.{Edit}
 use Rattle.session_model.specs.declared.session.Session.{Session}
-use Rattle.engine_model.specs.Editions.{Edition, IsAccepted, Refusal, after_one, apply, changed, edition, refusal, taken_up, unless_refused}
+use Rattle.engine_model.specs.Changes.{Change}
+use Rattle.engine_model.specs.Editions.{Edition, IsAccepted, after_one, apply, changed, edition, taken_up}
 use Rattle.engine_model.specs.Edits.{count_where, generation, has_quit, holds_at, is_quit, starts}
 use Rattle.engine_model.specs.Transport.{Transport, at_rest, moved, moved_by, place, place_from, place_of, until_start}
 use Rattle.engine_laws.proofs.NumberLemmas.{same_at}
 use Rattle.engine_laws.proofs.PlaceLemmas.{count_first}
+use Rattle.engine_laws.proofs.SessionLemmas.{accepted_makes}
 
 -- ---- the edit at a place
 
@@ -29,7 +31,7 @@ get_there [] k le = absurd (omega arith)
 get_there (e ∷ es) zero le = (e, refl)
 get_there (e ∷ es) (suc k) le = get_there es k (omega arith)
 
-holds_at_is : (f : Edit → Bool) (edits : List Edit) (k : ℕ) → holds_at f edits k ≡ option_map_or f (slice_get edits k) false
+pub holds_at_is : (f : Edit → Bool) (edits : List Edit) (k : ℕ) → holds_at f edits k ≡ option_map_or f (slice_get edits k) false
 holds_at_is f [] k = refl
 holds_at_is f (e ∷ es) zero = refl
 holds_at_is f (e ∷ es) (suc k) = holds_at_is f es k
@@ -48,10 +50,6 @@ quit_stays xs ys (suc k) le = ap (λ b. if b then true else has_quit (xs ++ ys) 
 
 -- ---- the transport of accepted edits
 
-ok_is_changed : (e : Edition) (edit : Edit) (why : Option Refusal) → IsOk (unless_refused why (changed e edit)) → taken_up e (unless_refused why (changed e edit)) ≡ changed e edit
-ok_is_changed e edit None ok = refl
-ok_is_changed e edit (Some why) ok = absurd (true≢false (sym ok))
-
 take_more : {X : Type 0} (xs : List X) (k : ℕ) (x : X) → slice_get xs k ≡ Some x → take (suc k) xs ≡ take k xs ++ x ∷ []
 take_more [] k x h = absurd (grind (arith, h))
 take_more (y ∷ ys) zero x h = ap (λ z. z ∷ []) (some_is y x h)
@@ -61,16 +59,16 @@ moved_by_more : (c : Transport) (xs : List Edit) (e : Edit) → moved_by c (xs +
 moved_by_more c [] e = refl
 moved_by_more c (x ∷ xs) e = moved_by_more (moved c x) xs e
 
-one_more : (session : Session) (edits : List Edit) (k : ℕ) (e : Edit) → slice_get edits k ≡ Some e → IsOk (apply (edition session edits k) e) →
-    edition session edits (suc k) ≡ changed (edition session edits k) e
-one_more session edits k e here ok = ap (after_one (edition session edits k)) here
-    ∙ ok_is_changed (edition session edits k) e (refusal (edition session edits k) e) ok
+pub one_more : (session : Session) (edits : List Edit) (k : ℕ) (e : Edit) → slice_get edits k ≡ Some e → IsOk (apply (edition session edits k) e) →
+    (c : Change) × (edition session edits (suc k) ≡ changed (edition session edits k) e c)
+one_more session edits k e here ok = let makes = accepted_makes (edition session edits k) e ok in
+    (makes.0, ap (after_one (edition session edits k)) here ∙ ap (taken_up (edition session edits k)) makes.2)
 
 pub transport_is : (session : Session) (edits : List Edit) (k : ℕ) → IsAccepted session edits → k ≤ length edits →
     (edition session edits k).transport ≡ moved_by at_rest (take k edits)
 transport_is session edits zero each le = refl
 transport_is session edits (suc k) each le = let here = get_there edits k le in
-    ap (λ e. e.transport) (one_more session edits k here.0 here.1 (each.each k here.0 here.1))
+    ap (λ e. e.transport) (one_more session edits k here.0 here.1 (each.each k here.0 here.1)).1
     ∙ ap (λ c. moved c here.0) (transport_is session edits k each (omega arith))
     ∙ sym (moved_by_more at_rest (take k edits) here.0)
     ∙ sym (ap (moved_by at_rest) (take_more edits k here.0 here.1))
@@ -180,7 +178,7 @@ moved_quits c _ = refl
 pub quit_is : (session : Session) (edits : List Edit) (k : ℕ) → IsAccepted session edits → k ≤ length edits → (edition session edits k).transport.quit ≡ has_quit edits k
 quit_is session edits zero each le = refl
 quit_is session edits (suc k) each le = let here = get_there edits k le in
-    ap (λ e. e.transport.quit) (one_more session edits k here.0 here.1 (each.each k here.0 here.1))
+    ap (λ e. e.transport.quit) (one_more session edits k here.0 here.1 (each.each k here.0 here.1)).1
     ∙ moved_quits (edition session edits k).transport here.0
     ∙ ap (λ q. if is_quit here.0 then true else q) (quit_is session edits k each (omega arith))
     ∙ ap (λ b. if b then true else has_quit edits k) (sym (holds_at_is is_quit edits k ∙ ap (λ o. option_map_or is_quit o false) here.1))

@@ -1,9 +1,9 @@
 -- The state and the notes of a cycle's entry keep the journal lawful.
-use Rattle.std.proofs.Common.{◌≡◌, ℕ, zero, suc, ◌+◌, ◌<◌, List, [], ◌∷◌, length, refl, sym, ap, subst, arith, ◌∙◌}
+use Rattle.std.proofs.Common.{◌≡◌, ℕ, zero, suc, ◌+◌, ◌<◌, ◌≤◌, List, [], ◌∷◌, length, refl, sym, ap, subst, arith, ◌∙◌}
 use Rattle.std.specs.Prelude.{Bool, true, false, ◌&&◌, not, ◌==◌, nat_eq, if◌then◌else◌, Option, Some, None, slice_get, replicate}
 use Rattle.std.specs.Option.{option_map_or}
 use Rattle.std.proofs.lemmas.List.{length-replicate}
-use Rattle.std.proofs.lemmas.Bool.{and_from, eq-eqb, lt-ltb, true≢false}
+use Rattle.std.proofs.lemmas.Bool.{and_from, and_parts, eq-eqb, lt-ltb, true≢false}
 use Rattle.session_model.specs.declared.edit.Edit.{Edit}
 use Rattle.session_model.specs.declared.session.Session.{Session}
 use Rattle.engine_model.specs.Edits.{generation, has_quit}
@@ -12,7 +12,7 @@ use Rattle.engine_model.specs.Items.{Kind, newest}
 use Rattle.engine_model.specs.Journal.{Heard, Short, Take, Off, Note, State, Stopped, Seeking, Rolling, Entry, is_rolling, rolled}
 use Rattle.engine_model.specs.Fits.{fits, fits_state, fits_play, fits_take, fits_note, fits_notes, records, next_take}
 use Rattle.engine_model.specs.Cycle.{has_piece, waiting, first_state, rolling_state, state_of, play_of, notes_of, entry_of}
-use Rattle.engine_laws.specs.JournalInvariant.{no_takes}
+use Rattle.engine_model.specs.Made.{fit_takes}
 use Rattle.engine_laws.proofs.LawfulLemmas.{fits_from}
 
 -- ---- the state
@@ -91,38 +91,48 @@ play_fits g n tracks (Rolling h s) t xs plays there = by (has_piece h s xs) refl
     by true e = refl
     by false e = lt-ltb 0 n (plays.2 t xs there (sym (ap (λ k. has_piece k s xs) plays.0 ∙ ap (λ k. has_piece g k xs) plays.1) ∙ e))
 
+pub some_takes : (many : ℕ) (tracks : List (List Kind)) → length tracks ≡ many → length (replicate many Off) ≡ length tracks
+some_takes many tracks is = length-replicate many Off ∙ sym is
+
 off_fits : (rolling armed : Bool) (next : ℕ × ℕ) → fits_take (rolling && (false && armed)) next Off ≡ true
 off_fits true armed next = refl
 off_fits false armed next = refl
 
-pub some_takes : (many : ℕ) (tracks : List (List Kind)) → length tracks ≡ many → length (replicate many Off) ≡ length tracks
-some_takes many tracks is = length-replicate many Off ∙ sym is
-
--- where no take is recorded, the notes of the tracks from track t on fit
-notes_fit : (now : Edition) (g n : ℕ) (all tracks : List (List Kind)) (state : State) (before : List Entry) (t : ℕ) → now.transport.recording ≡ false → PlaysAs g n all state →
-    ((i : ℕ) (xs : List Kind) → slice_get tracks i ≡ Some xs → slice_get all (t + i) ≡ Some xs) →
-    fits_notes now (is_rolling state) n before t (notes_of state tracks (replicate (length tracks) Off)) ≡ true
-notes_fit now g n all [] state before t still plays there = refl
-notes_fit now g n all (xs ∷ tracks) state before t still plays there = and_from (fits_note now (is_rolling state) n before t (record { play = play_of state xs; take = Off }))
-    (fits_notes now (is_rolling state) n before (suc t) (notes_of state tracks (replicate (length tracks) Off)))
-    (and_from (fits_play (is_rolling state) n (play_of state xs)) (fits_take (is_rolling state && records now t) (next_take t before) Off)
-    (play_fits g n all state (t + 0) xs plays (there 0 xs refl))
-    (ap (λ b. fits_take (is_rolling state && (b && armed)) (next_take t before) Off) still ∙ off_fits (is_rolling state) armed (next_take t before)))
-    (notes_fit now g n all tracks state before (suc t) still plays (λ i ys at. subst (λ k. slice_get all k ≡ Some ys) {x = t + suc i} {y = suc t + i} (omega arith) (there (suc i) ys at)))
+-- where no take is recorded, no take fits
+pub none_fit : (now : Edition) (rolling : Bool) (before : List Entry) (t many : ℕ) → now.transport.recording ≡ false → fit_takes now rolling before t (replicate many Off) ≡ true
+none_fit now rolling before t zero still = refl
+none_fit now rolling before t (suc many) still = and_from (fits_take (rolling && records now t) (next_take t before) Off) (fit_takes now rolling before (suc t) (replicate many Off))
+    (ap (λ b. fits_take (rolling && (b && armed)) (next_take t before) Off) still ∙ off_fits rolling armed (next_take t before))
+    (none_fit now rolling before (suc t) many still)
   where
     armed : Bool
     armed = option_map_or (λ k. k.armed) (slice_get now.session.tracks.items t) false
 
-pub entry_fits : (session : Session) (edits : List Edit) (tracks : List (List Kind)) (entries : List Entry) → length tracks ≡ length session.tracks.items →
-    has_quit edits (length edits) ≡ false → (edition session edits (length edits)).transport.recording ≡ false →
-    fits session edits entries (entry_of session edits entries tracks (no_takes session) (length edits)) ≡ true
-entry_fits session edits tracks entries many open_still still =
-    let r : ℕ = length edits in let now : Edition = edition session edits r in let g : ℕ = generation edits r in let n : ℕ = rolled g entries in
-    let state : State = state_of now.transport.rolling g n tracks in let notes : List Note = notes_of state tracks (no_takes session) in
-    fits_from session edits entries (entry_of session edits entries tracks (no_takes session) r) (omega arith) (ap not open_still)
+-- the notes of the tracks from track t on fit, where the takes do
+notes_fit : (now : Edition) (g n : ℕ) (all tracks : List (List Kind)) (takes : List Take) (state : State) (before : List Entry) (t : ℕ) → PlaysAs g n all state →
+    fit_takes now (is_rolling state) before t takes ≡ true → ((i : ℕ) (xs : List Kind) → slice_get tracks i ≡ Some xs → slice_get all (t + i) ≡ Some xs) →
+    fits_notes now (is_rolling state) n before t (notes_of state tracks takes) ≡ true
+notes_fit now g n all [] takes state before t plays fit there = refl
+notes_fit now g n all (xs ∷ tracks) [] state before t plays fit there = refl
+notes_fit now g n all (xs ∷ tracks) (take ∷ takes) state before t plays fit there =
+    let parts = and_parts (fits_take (is_rolling state && records now t) (next_take t before) take) (fit_takes now (is_rolling state) before (suc t) takes) fit in
+    and_from (fits_note now (is_rolling state) n before t (record { play = play_of state xs; take = take }))
+    (fits_notes now (is_rolling state) n before (suc t) (notes_of state tracks takes))
+    (and_from (fits_play (is_rolling state) n (play_of state xs)) (fits_take (is_rolling state && records now t) (next_take t before) take)
+    (play_fits g n all state (t + 0) xs plays (there 0 xs refl)) parts.0)
+    (notes_fit now g n all tracks takes state before (suc t) plays parts.1 (λ i ys at. subst (λ k. slice_get all k ≡ Some ys) {x = t + suc i} {y = suc t + i} (omega arith) (there (suc i) ys at)))
+
+pub entry_fits : (session : Session) (edits : List Edit) (r : ℕ) (tracks : List (List Kind)) (takes : List Take) (entries : List Entry) → r ≤ length edits →
+    length tracks ≡ length session.tracks.items →
+    length takes ≡ length tracks → has_quit edits r ≡ false → fit_takes (edition session edits r) (is_rolling (entry_of session edits entries tracks takes r).state) entries 0 takes ≡ true →
+    fits session edits entries (entry_of session edits entries tracks takes r) ≡ true
+entry_fits session edits r tracks takes entries within many each open_still fit =
+    let now : Edition = edition session edits r in let g : ℕ = generation edits r in let n : ℕ = rolled g entries in
+    let state : State = state_of now.transport.rolling g n tracks in let notes : List Note = notes_of state tracks takes in
+    fits_from session edits entries (entry_of session edits entries tracks takes r) within (ap not open_still)
     (and_from (fits_state now.transport.rolling (length session.tracks.items) g n state && length notes == length session.tracks.items) (fits_notes now (is_rolling state) n entries 0 notes)
     (and_from (fits_state now.transport.rolling (length session.tracks.items) g n state) (length notes == length session.tracks.items)
     (state_fits now.transport.rolling g n (length session.tracks.items) tracks many)
-    (eq-eqb (length notes) (length session.tracks.items) (notes_long state tracks (no_takes session) (some_takes (length session.tracks.items) tracks many) ∙ many)))
-    (subst (λ m. fits_notes now (is_rolling state) n entries 0 (notes_of state tracks (replicate m Off)) ≡ true) many
-    (notes_fit now g n tracks tracks state entries 0 still (plays_as now.transport.rolling g n tracks) (λ i xs at. subst (λ k. slice_get tracks k ≡ Some xs) {x = i} {y = 0 + i} (omega arith) at))))
+    (eq-eqb (length notes) (length session.tracks.items) (notes_long state tracks takes each ∙ many)))
+    (notes_fit now g n tracks tracks takes state entries 0 (plays_as now.transport.rolling g n tracks) fit
+    (λ i xs at. subst (λ k. slice_get tracks k ≡ Some xs) {x = i} {y = 0 + i} (omega arith) at)))

@@ -43,7 +43,8 @@ pub piece_heads : (session : Session) (edits : List Edit) (t u g s p : ℕ) (xs 
 piece_heads session edits t u g s p xs h = heads6 (nat_eq u t) (nat_eq p (playlist_edition session edits t p)) (nat_le g (generation edits (length edits)))
     (list_all (precedes_piece session edits t g p) xs) (among s (blocks g xs) || list_all (λ r. nat_lt r s) (blocks g xs)) (list_all (λ r. nat_le r s || nat_le p (newest g r xs)) (blocks g xs)) h
 
-mark_heads : (session : Session) (edits : List Edit) (t k g s : ℕ) (xs : List Kind) → may_follow session edits t xs (Settled k g s) ≡ true → (nat_le k (length edits) ≡ true) × (nat_eq g (generation edits k) ≡ true)
+pub mark_heads : (session : Session) (edits : List Edit) (t k g s : ℕ) (xs : List Kind) → may_follow session edits t xs (Settled k g s) ≡ true →
+    (nat_le k (length edits) ≡ true) × (nat_eq g (generation edits k) ≡ true)
 mark_heads session edits t k g s xs h = heads4 (nat_le k (length edits)) (nat_eq g (generation edits k)) (list_all (precedes_mark k g) xs) (list_all (λ r. nat_lt r s || nat_le (playlist_edition session edits t k) (newest g r xs)) (blocks g xs)) h
 
 names_new : (session : Session) (edits : List Edit) (t : ℕ) (xs : List Kind) (x : Kind) → may_follow session edits t xs x ≡ true → names edits x ≡ true

@@ -1,5 +1,5 @@
 -- What is due isn't held, and what isn't held isn't held later.
-use Rattle.std.proofs.Common.{◌≡◌, inl, inr, ℕ, ◌+◌, ◌-◌, ◌<◌, List, [], ◌∷◌, refl, sym, subst, arith}
+use Rattle.std.proofs.Common.{◌≡◌, inl, inr, ℕ, ◌+◌, ◌<◌, List, [], ◌∷◌, refl, sym, subst, arith}
 use Rattle.std.specs.Prelude.{Bool, true, false, ◌&&◌, ◌||◌, not, ◌==◌, nat_lt, if◌then◌else◌, Option, Some, None}
 use Rattle.std.proofs.lemmas.Bool.{and_parts, and_from, eqb-true, ltb-true, true≢false}
 use Rattle.session_model.specs.declared.edit.Edit.{Edit}
@@ -8,7 +8,6 @@ use Rattle.engine_model.specs.Edits.{generation}
 use Rattle.engine_model.specs.Items.{Kind, Piece, Settled, Blank, among, blocks, has_mark}
 use Rattle.engine_model.specs.Due.{Ack, Needs, due, due_by, greatest, is_stale, needs, next_block, past}
 use Rattle.engine_model.specs.Cycle.{is_held}
-use Rattle.engine_model.specs.Editions.{edition}
 use Rattle.engine_laws.specs.Entered.{GoneOn}
 use Rattle.engine_laws.specs.SerialLaws.{none_is_held}
 use Rattle.engine_laws.proofs.ListLemmas.{Found, found}

@@ -20,7 +20,7 @@ use Rattle.engine_laws.proofs.PlainSessionLemmas.{item_at}
 
 -- ---- more is received
 
-get_new : {X : Type 0} (old new : List X) (t : ℕ) (x : X) → length new ≡ length old → slice_get new t ≡ Some x → (y : X) × (slice_get old t ≡ Some y)
+pub get_new : {X : Type 0} (old new : List X) (t : ℕ) (x : X) → length new ≡ length old → slice_get new t ≡ Some x → (y : X) × (slice_get old t ≡ Some y)
 get_new old new t x many there = let lt = slice_get_within new t x there in item_at old t (omega arith)
 
 entry_receives : (session : Session) (edits : List Edit) (old new : List (List Kind)) (h r g s : ℕ) (e : Entry) → Receives old new → AreOrdered session edits new →
@@ -34,7 +34,7 @@ entry_receives session edits old new h r g s e more order stands = record {
       (subst (λ l. is_ordered_newest session edits t l ≡ true) rest.1 (order t ys there)) (stands.heard t p xs.0 xs.1 is));
 }
 
-entries_receive : (session : Session) (edits : List Edit) (old new : List (List Kind)) (h r : ℕ) (entries : List Entry) → Receives old new → AreOrdered session edits new →
+pub entries_receive : (session : Session) (edits : List Edit) (old new : List (List Kind)) (h r : ℕ) (entries : List Entry) → Receives old new → AreOrdered session edits new →
     EntriesStand edits old h r entries → EntriesStand edits new h r entries
 entries_receive session edits old new h r [] more order stand = tt
 entries_receive session edits old new h r (e ∷ before) more order stand = (
@@ -81,7 +81,7 @@ entries_edited session edits more tracks h r (e ∷ before) lawful stand = let s
     )
 
 -- the place in more edits is no earlier
-place_by : (g h : ℕ) (entries : List Entry) → g ≤ h → GoneOn g (rolled g entries) h (rolled h entries)
+pub place_by : (g h : ℕ) (entries : List Entry) → g ≤ h → GoneOn g (rolled g entries) h (rolled h entries)
 place_by g h entries le = elim (cases_lt g h) [
   | inl lt ↦ inl lt
   | inr ge ↦ let same : g ≡ h = omega arith in inr (same, subst (λ n. rolled g entries ≤ rolled n entries) same (omega arith))

@@ -58,7 +58,7 @@ fits_stays session edits more before e h = let parts = fits_parts session edits 
     ∙ ap (λ g. fits_in session (edition session edits e.edition) g before e) (count_stays starts edits more e.edition parts.0) ∙ parts.2)
 
 -- the parts of what is heard well
-heard_parts : (session : Session) (edits : List Edit) (settled t p : ℕ) → is_heard_well session edits settled t (Heard p) ≡ true →
+pub heard_parts : (session : Session) (edits : List Edit) (settled t p : ℕ) → is_heard_well session edits settled t (Heard p) ≡ true →
     (p ≡ playlist_edition session edits t p) × (p ≤ length edits) × (playlist_edition session edits t settled ≤ p)
 heard_parts session edits settled t p h = let two = and_parts (nat_eq p (playlist_edition session edits t p) && nat_le p (length edits)) (nat_le (playlist_edition session edits t settled) p) h in
     let one = and_parts (nat_eq p (playlist_edition session edits t p)) (nat_le p (length edits)) two.0 in
@@ -124,7 +124,7 @@ newest_of_all : (session : Session) (edits : List Edit) (settled t p : ℕ) → 
 newest_of_all session edits settled t p h = let parts = heard_parts session edits settled t p h in
     subst (λ n. n ≤ playlist_edition session edits t (length edits)) (sym parts.0) (last_rises (touches session t) edits p (length edits) parts.1)
 
-note_well : (session : Session) (edits : List Edit) (settled t i : ℕ) (before : List Entry) (notes : List Note) →
+pub note_well : (session : Session) (edits : List Edit) (settled t i : ℕ) (before : List Entry) (notes : List Note) →
     are_heard_well session edits settled before t notes ≡ true → is_heard_well session edits settled (t + i) (note_at i notes).play ≡ true
 note_well session edits settled t i before [] h = refl
 note_well session edits settled t zero before (note ∷ notes) h =

@@ -1,19 +1,19 @@
--- Genuine pieces make the block that an entry stands for, in plain sessions.
-use Rattle.std.proofs.Common.{◌≡◌, ℕ, zero, suc, ◌+◌, ◌-◌, ◌*◌, ◌/◌, ◌%◌, ◌<◌, ◌≤◌, List, [], ◌∷◌, length, map, refl, sym, ap, arith, ◌∙◌}
-use Rattle.std.specs.Prelude.{Bool, true, false, ◌&&◌, ◌||◌, ◌==◌, nat_eq, ℤ, pos, ◌+ℤ◌, if◌then◌else◌, Some, None, slice_get, get_or, All}
+-- Genuine pieces make the block that an entry stands for, in every edition whose session is valid.
+use Rattle.std.proofs.Common.{◌≡◌, mul_comm, ℕ, zero, suc, ◌+◌, ◌-◌, ◌*◌, ◌/◌, ◌%◌, ◌<◌, ◌≤◌, List, [], ◌∷◌, length, map, refl, sym, ap, subst, arith, ◌∙◌}
+use Rattle.std.specs.Prelude.{Bool, true, false, ◌&&◌, ◌||◌, ◌==◌, nat_eq, ℤ, pos, if◌then◌else◌, Some, None, slice_get, get_or, All}
 use Rattle.std.specs.List.{list_all, range_with_len}
 use Rattle.std.proofs.lemmas.Bool.{and_parts, eqb-true, true≢false}
 use Rattle.std.proofs.lemmas.Option.{slice_get-map, get_or_from_slice_get}
+use Rattle.std.proofs.lemmas.Nat.{mul-add-lt, div-mul-add, mod-mul-add, div_below, mod_below}
 use Rattle.std.proofs.lemmas.List.{length-map}
 use Rattle.std.specs.Option.{option_map}
 use Rattle.std.proofs.lemmas.List.Elements.{All-head, All-tail}
 use Rattle.std.proofs.lemmas.List.FromFn.{get_or-map-range_with_len}
-use Rattle.sound_model.specs.Numbers.{clip}
-use Rattle.sound_model.specs.Routes.{master_sample}
-use Rattle.sound_laws.specs.Desks.{PlainDeskSums}
+use Rattle.sound_laws.specs.Desks.{AgreeOnOwn}
+use Rattle.sound_laws.proofs.ChannelLaws.{only_own_channels}
 use Rattle.session_model.specs.declared.session.Session.{Session}
 use Rattle.session_model.specs.declared.edit.Edit.{Edit}
-use Rattle.session_model.specs.Views.{routes_of}
+use Rattle.session_model.specs.Views.{routes_of, route_of, track_number}
 use Rattle.session_model.specs.Valid.{IsValid}
 use Rattle.session_model.specs.Formed.{channels_at}
 use Rattle.session_model.specs.Frames.{interleaved}
@@ -21,12 +21,14 @@ use Rattle.engine_model.specs.Transport.{place}
 use Rattle.engine_model.specs.Items.{Kind, Item, Piece, Settled, Blank, among, blocks, newest}
 use Rattle.engine_model.specs.Journal.{Heard, Short, Take, State, Stopped, Seeking, Rolling, note_at}
 use Rattle.engine_model.specs.Cycle.{has_piece, play_of, notes_of, entry_of}
-use Rattle.engine_model.specs.Played.{Samples, piece_samples, IsGenuine, IsGenuineAs, heard, block, block_in, master_at}
+use Rattle.engine_model.specs.Played.{Samples, piece_samples, IsGenuine, IsGenuineAs, heard, block, block_in, master_at, master_channels}
 use Rattle.engine_model.specs.Mixed.{is_block, newest_samples, received_sample, mixed_at, mixed_in}
-use Rattle.engine_model.specs.PlainSession.{is_plain}
-use Rattle.engine_laws.specs.PlayedLaws.{GenuinePiecesMakeTheBlock, is_of, is_of_track, IsOfTrack, total}
-use Rattle.engine_laws.proofs.PlayedLemmas.{session_stands}
-use Rattle.engine_laws.proofs.PlainSessionLemmas.{item_at, mono_at, plain_master_sums}
+use Rattle.engine_laws.specs.PlayedLaws.{GenuinePiecesMakeTheBlock, is_of, is_of_track, IsOfTrack}
+use Rattle.engine_model.specs.Editions.{edition}
+use Rattle.engine_laws.proofs.PlainSessionLemmas.{item_at}
+use Rattle.engine_laws.proofs.FixedLemmas.{many_tracks, many_routes, channels_stay}
+use Rattle.engine_laws.proofs.PlayedLemmas.{fixed_stands}
+use Rattle.engine_laws.proofs.WideLemmas.{route_seen, channels_seen, leads_wide, track_place}
 
 abbrev kinds_of : List Item → List Kind
 kinds_of items = map (λ i. i.kind) items
@@ -89,22 +91,22 @@ none_are g s (x ∷ xs) none = step (is_block g s x.kind) refl (none_are g s xs)
     step true e rest = absurd (true≢false (sym (here_has g s x.kind (kinds_of xs) e) ∙ none))
     step false e rest = rest (sym (other_has g s x.kind (kinds_of xs) e) ∙ none)
 
--- ---- one sample of a mono track
+-- ---- one sample of a track
 
-at_one : (f : ℕ → ℕ → ℤ) (a n i : ℕ) → i < n → get_or (interleaved f 1 a (n * 1)) (i * 1 + 0) (pos 0) ≡ f (a + i) 0
-at_one f a n i lt = get_or-map-range_with_len (λ k. f (a + k / 1) (k % 1)) 0 (n * 1) (i * 1 + 0) i (pos 0) (omega arith) (omega arith)
-    ∙ ap (λ k. f (a + k) (i % 1)) (grind arith) ∙ ap (λ k. f (a + i) k) (grind arith)
+at_frame : (f : ℕ → ℕ → ℤ) (channels a n i c : ℕ) → i < n → c < channels → get_or (interleaved f channels a (n * channels)) (i * channels + c) (pos 0) ≡ f (a + i) c
+at_frame f channels a n i c lt near = let within = mul-add-lt i channels c n lt near in
+    get_or-map-range_with_len (λ k. f (a + k / channels) (k % channels)) 0 (n * channels) (i * channels + c) (i * channels + c) (pos 0) (omega (arith, within, mul_comm n channels)) (omega arith)
+    ∙ ap (λ k. f (a + k) ((i * channels + c) % channels)) (div-mul-add i channels c near) ∙ ap (λ k. f (a + i) k) (mod-mul-add i channels c near)
 
-sample_heard : (session : Session) (edits : List Edit) (samples : Samples) (t g s i : ℕ) (items : List Item) → channels_at session t ≡ 1 → i < session.block →
+sample_heard : (session : Session) (edits : List Edit) (samples : Samples) (t g s i c : ℕ) (items : List Item) → c < channels_at session t → i < session.block →
     list_all (is_of t) items ≡ true → All (IsGenuine session edits samples) items → (b : Bool) → has_piece g s (kinds_of items) ≡ b →
-    get_or (newest_samples g s items) (i * channels_at session t + 0) (pos 0)
-    ≡ heard samples t 0 (place edits g (s * session.block + i)) (if b then Heard (newest g s (kinds_of items)) else Short (length (kinds_of items)))
-sample_heard session edits samples t g s i items mono lt named genuine true has =
-    ap (λ l. get_or l (i * channels_at session t + 0) (pos 0)) (newest_are session edits samples t g s items named genuine has)
-    ∙ ap (λ c. get_or (interleaved (λ n k. samples t (newest g s (kinds_of items)) k (place edits g n)) c (s * session.block) (session.block * c)) (i * c + 0) (pos 0)) mono
-    ∙ at_one (λ n k. samples t (newest g s (kinds_of items)) k (place edits g n)) (s * session.block) session.block i lt
-sample_heard session edits samples t g s i items mono lt named genuine false none =
-    ap (λ l. get_or l (i * channels_at session t + 0) (pos 0)) (none_are g s items none)
+    get_or (newest_samples g s items) (i * channels_at session t + c) (pos 0)
+    ≡ heard samples t c (place edits g (s * session.block + i)) (if b then Heard (newest g s (kinds_of items)) else Short (length (kinds_of items)))
+sample_heard session edits samples t g s i c items near lt named genuine true has =
+    ap (λ l. get_or l (i * channels_at session t + c) (pos 0)) (newest_are session edits samples t g s items named genuine has)
+    ∙ at_frame (λ n k. samples t (newest g s (kinds_of items)) k (place edits g n)) (channels_at session t) (s * session.block) session.block i c lt near
+sample_heard session edits samples t g s i c items near lt named genuine false none =
+    ap (λ l. get_or l (i * channels_at session t + c) (pos 0)) (none_are g s items none)
 
 -- ---- the note of a track
 
@@ -118,14 +120,7 @@ note_is state (y ∷ ys) [] t xs long there = absurd (omega arith)
 note_is state (y ∷ ys) (take ∷ takes) zero xs long there = let same : y ≡ xs = cc in ap (play_of state) same
 note_is state (y ∷ ys) (take ∷ takes) (suc t) xs long there = note_is state ys takes t xs (omega arith) there
 
--- ---- sums and blocks that agree
-
-total_same : (f g : ℕ → ℤ) (t n : ℕ) → ((k : ℕ) → t ≤ k → k < t + n → f k ≡ g k) → total f t n ≡ total g t n
-total_same f g t zero same = refl
-total_same f g t (suc n) same = both (same t (omega arith) (omega arith)) (total_same f g (suc t) n (λ k low high. same k (omega arith) (omega arith)))
-  where
-    both : {a b c d : ℤ} → a ≡ b → c ≡ d → a +ℤ c ≡ b +ℤ d
-    both h k = cc
+-- ---- blocks that agree
 
 map_same : (f g : ℕ → ℤ) (a n : ℕ) → ((k : ℕ) → a ≤ k → k < a + n → f k ≡ g k) → map f (range_with_len a n) ≡ map g (range_with_len a n)
 map_same f g a zero same = refl
@@ -134,62 +129,65 @@ map_same f g a (suc n) same = both (same a (omega arith) (omega arith)) (map_sam
     both : {x y : ℤ} {xs ys : List ℤ} → x ≡ y → xs ≡ ys → x ∷ xs ≡ y ∷ ys
     both h k = cc
 
-mono_same : (f g : ℕ → ℕ → ℤ) (a n : ℕ) → ((i : ℕ) → i < n → f (a + i) 0 ≡ g (a + i) 0) → interleaved f 1 a (n * 1) ≡ interleaved g 1 a (n * 1)
-mono_same f g a n same = map_same (λ k. f (a + k / 1) (k % 1)) (λ k. g (a + k / 1) (k % 1)) 0 (n * 1)
-    (λ k low high. by_one k (k / 1) (k % 1) (grind arith) (grind arith) (same k (omega arith)))
-  where
-    by_one : (k q r : ℕ) → q ≡ k → r ≡ 0 → f (a + k) 0 ≡ g (a + k) 0 → f (a + q) r ≡ g (a + q) r
-    by_one k q r whole rest e = cc
+some_channel : (k n channels : ℕ) → k < n * channels → 0 < channels
+some_channel k n zero lt = absurd (omega arith)
+some_channel k n (suc channels) lt = omega arith
 
--- ---- the block of a plain session
+block_same : (f g : ℕ → ℕ → ℤ) (channels a n : ℕ) → ((i c : ℕ) → i < n → c < channels → f (a + i) c ≡ g (a + i) c) → interleaved f channels a (n * channels) ≡ interleaved g channels a (n * channels)
+block_same f g channels a n same = map_same (λ k. f (a + k / channels) (k % channels)) (λ k. g (a + k / channels) (k % channels)) 0 (n * channels)
+    (λ k low high. let lt : k < n * channels = omega arith in let some = some_channel k n channels lt in
+    same (k / channels) (k % channels) (div_below k channels n some lt) (mod_below k channels some))
 
--- what a frame of the block takes of one track
-track_is : (session : Session) (edits : List Edit) (samples : Samples) (tracks : List (List Item)) (takes : List Take) (g s i t : ℕ) → is_plain session ≡ true →
-    t < length session.routes.items → t < length tracks → length takes ≡ length tracks →
-    ((u : ℕ) (items : List Item) → slice_get tracks u ≡ Some items → IsOfTrack session edits samples u items) → i < session.block →
-    clip (received_sample session tracks g s (s * session.block + i - s * session.block) t 0)
-    ≡ clip (heard samples t 0 (place edits g (s * session.block + i)) (note_at t (notes_of (Rolling g s) (map kinds_of tracks) takes)).play)
-track_is session edits samples tracks takes g s i t plain routed lt given each within = let at = item_at tracks t lt in let of = each t at.0 at.1 in ap clip (
-    ap (λ n. received_sample session tracks g s n t 0) (gone (s * session.block) i)
-    ∙ ap (λ l. get_or (newest_samples g s l) (i * channels_at session t + 0) (pos 0)) (get_or_from_slice_get tracks t at.0 [] at.1)
-    ∙ sample_heard session edits samples t g s i at.0 (mono_at session t plain routed) within of.named of.genuine (has_piece g s (kinds_of at.0)) refl
-    ∙ sym (ap (heard samples t 0 (place edits g (s * session.block + i))) (note_is (Rolling g s) (map kinds_of tracks) takes t (kinds_of at.0)
-    (given ∙ sym (length-map tracks kinds_of)) (slice_get-map kinds_of tracks t ∙ ap (λ o. option_map kinds_of o) at.1))))
-  where
-    gone : (a n : ℕ) → a + n - a ≡ n
-    gone a n = omega arith
+-- ---- the block of an edition
 
--- one frame of the block that rolls, by tracks that are of their numbers and genuine
-frame_is : (session : Session) (edits : List Edit) (samples : Samples) (tracks : List (List Item)) (takes : List Take) (r k g s i : ℕ) → PlainDeskSums → IsValid session → is_plain session ≡ true →
-    length tracks ≡ length session.tracks.items → length takes ≡ length tracks →
-    ((t : ℕ) (items : List Item) → slice_get tracks t ≡ Some items → IsOfTrack session edits samples t items) → i < session.block →
-    mixed_at session edits tracks r g s (s * session.block + i) 0
-    ≡ master_at session edits samples (record { edition = r; settled = k; state = Rolling g s; notes = notes_of (Rolling g s) (map kinds_of tracks) takes }) g (s * session.block + i) 0
-frame_is session edits samples tracks takes r k g s i law valid plain many given each lt = let x = place edits g (s * session.block + i) in
-    let played : ℕ → ℕ → ℤ = λ t c. heard samples t c x (note_at t (notes_of (Rolling g s) (map kinds_of tracks) takes)).play in
-    let received : ℕ → ℕ → ℤ = received_sample session tracks g s (s * session.block + i - s * session.block) in
-    let more : length session.tracks.items < length session.routes.items = valid.formed.limits.master in
-    ap (λ ss. master_sample (routes_of ss) received x 0) (session_stands session edits r)
-    ∙ plain_master_sums law session received x valid plain
-    ∙ ap clip (total_same (λ t. clip (received t 0)) (λ t. clip (played t 0)) 0 (length session.tracks.items)
-    (λ t low high. track_is session edits samples tracks takes g s i t plain (omega arith) (omega arith) given each lt))
-    ∙ sym (plain_master_sums law session played x valid plain)
-    ∙ sym (ap (λ ss. master_sample (routes_of ss) played x 0) (session_stands session edits r))
+module _ (session : Session) (edits : List Edit) (samples : Samples) (tracks : List (List Item)) (takes : List Take) (r k : ℕ) (valid : IsValid (edition session edits r).session)
+    (many : length tracks ≡ length session.tracks.items) (given : length takes ≡ length tracks)
+    (each : (t : ℕ) (items : List Item) → slice_get tracks t ≡ Some items → IsOfTrack session edits samples t items) where
+  abbrev z : Session
+  z = (edition session edits r).session
 
-block_is : (session : Session) (edits : List Edit) (samples : Samples) (tracks : List (List Item)) (takes : List Take) (r k : ℕ) (state : State) → PlainDeskSums → IsValid session → is_plain session ≡ true →
-    length tracks ≡ length session.tracks.items → length takes ≡ length tracks →
-    ((t : ℕ) (items : List Item) → slice_get tracks t ≡ Some items → IsOfTrack session edits samples t items) →
-    mixed_in session edits tracks r state ≡ block_in session edits samples (record { edition = r; settled = k; state = state; notes = notes_of state (map kinds_of tracks) takes }) state
-block_is session edits samples tracks takes r k Stopped law valid plain many given each = refl
-block_is session edits samples tracks takes r k (Seeking t tail) law valid plain many given each = refl
-block_is session edits samples tracks takes r k (Rolling g s) law valid plain many given each = let more : length session.tracks.items < length session.routes.items = valid.formed.limits.master in
-    let mono = mono_at session (length session.routes.items - 1) plain (omega arith) in
-    let mine : ℕ → ℕ → ℤ = mixed_at session edits tracks r g s in
-    let theirs : ℕ → ℕ → ℤ = master_at session edits samples (record { edition = r; settled = k; state = Rolling g s; notes = notes_of (Rolling g s) (map kinds_of tracks) takes }) g in
-    ap (λ c. interleaved mine c (s * session.block) (session.block * c)) mono
-    ∙ mono_same mine theirs (s * session.block) session.block (λ i lt. frame_is session edits samples tracks takes r k g s i law valid plain many given each lt)
-    ∙ sym (ap (λ c. interleaved theirs c (s * session.block) (session.block * c)) mono)
+  -- what a frame of the block takes of one track
+  track_is : (g s i t c : ℕ) → t < length tracks → c < channels_at session t → i < session.block →
+      received_sample session tracks g s (s * session.block + i - s * session.block) t c
+      ≡ heard samples t c (place edits g (s * session.block + i)) (note_at t (notes_of (Rolling g s) (map kinds_of tracks) takes)).play
+  track_is g s i t c lt near within = let at = item_at tracks t lt in let of = each t at.0 at.1 in
+      ap (λ n. received_sample session tracks g s n t c) (gone (s * session.block) i)
+      ∙ ap (λ l. get_or (newest_samples g s l) (i * channels_at session t + c) (pos 0)) (get_or_from_slice_get tracks t at.0 [] at.1)
+      ∙ sample_heard session edits samples t g s i c at.0 near within of.named of.genuine (has_piece g s (kinds_of at.0)) refl
+      ∙ sym (ap (heard samples t c (place edits g (s * session.block + i))) (note_is (Rolling g s) (map kinds_of tracks) takes t (kinds_of at.0)
+      (given ∙ sym (length-map tracks kinds_of)) (slice_get-map kinds_of tracks t ∙ ap (λ o. option_map kinds_of o) at.1)))
+    where
+      gone : (a n : ℕ) → a + n - a ≡ n
+      gone a n = omega arith
 
-pub genuine_pieces_make_the_block : PlainDeskSums → GenuinePiecesMakeTheBlock
-genuine_pieces_make_the_block law session edits samples before tracks takes r valid plain many given each = let e = entry_of session edits before (map kinds_of tracks) takes r in
-    block_is session edits samples tracks takes r e.settled e.state law valid plain many given each
+  -- the tracks' own channels are as the entry says
+  own_are : (g s i : ℕ) → i < session.block → AgreeOnOwn (routes_of z) (received_sample session tracks g s (s * session.block + i - s * session.block))
+      (λ t c. heard samples t c (place edits g (s * session.block + i)) (note_at t (notes_of (Rolling g s) (map kinds_of tracks) takes)).play)
+  own_are g s i within f t c q here is lt = let seen = route_seen z f q here in let fixed = fixed_stands session edits r in
+      let at = track_place (length z.tracks.items) (length z.routes.items) f t (ap track_number (sym (valid.formed.routes f seen.route seen.there).kind) ∙ ap (λ x. x.track) seen.seen ∙ is) in
+      let first = at.0 in let same = at.1 in let as_many = many_tracks session z fixed in
+      let wide : channels_at session t ≡ q.channels = ap (channels_at session) same ∙ sym (channels_stay session z fixed f) ∙ channels_seen z f q here in
+      track_is g s i t c (omega (arith, first, same, as_many, many)) (subst (λ n. c < n) (sym wide) lt) within
+
+  -- one frame of the block that rolls, by tracks that are of their numbers and genuine
+  frame_is : (g s i c : ℕ) → i < session.block → c < master_channels session → mixed_at session edits tracks r g s (s * session.block + i) c
+      ≡ master_at session edits samples (record { edition = r; settled = k; state = Rolling g s; notes = notes_of (Rolling g s) (map kinds_of tracks) takes }) g (s * session.block + i) c
+  frame_is g s i c within near = let more : length z.tracks.items < length z.routes.items = valid.formed.limits.master in let long = length-map z.routes.items (route_of z.tracks.items) in
+      let last = item_at (routes_of z) (length (routes_of z) - 1) (omega (arith, more, long)) in let fixed = fixed_stands session edits r in
+      let wide : master_channels session ≡ last.0.channels = ap (λ n. channels_at session (n - 1)) (sym (many_routes session z fixed) ∙ sym long)
+      ∙ sym (channels_stay session z fixed (length (routes_of z) - 1)) ∙ channels_seen z (length (routes_of z) - 1) last.0 last.1 in
+      only_own_channels (routes_of z) (received_sample session tracks g s (s * session.block + i - s * session.block))
+      (λ t n. heard samples t n (place edits g (s * session.block + i)) (note_at t (notes_of (Rolling g s) (map kinds_of tracks) takes)).play)
+      (place edits g (s * session.block + i)) (length (routes_of z) - 1) c last.0 (leads_wide z valid.formed) (own_are g s i within) last.1 (subst (λ n. c < n) wide near)
+
+  block_is : (state : State) → mixed_in session edits tracks r state
+      ≡ block_in session edits samples (record { edition = r; settled = k; state = state; notes = notes_of state (map kinds_of tracks) takes }) state
+  block_is Stopped = refl
+  block_is (Seeking t tail) = refl
+  block_is (Rolling g s) = block_same (mixed_at session edits tracks r g s)
+      (master_at session edits samples (record { edition = r; settled = k; state = Rolling g s; notes = notes_of (Rolling g s) (map kinds_of tracks) takes }) g)
+      (master_channels session) (s * session.block) session.block (λ i c within near. frame_is g s i c within near)
+
+pub genuine_pieces_make_the_block : GenuinePiecesMakeTheBlock
+genuine_pieces_make_the_block session edits samples before tracks takes r valid many given each = let e = entry_of session edits before (map kinds_of tracks) takes r in
+    block_is session edits samples tracks takes r e.settled valid many given each e.state

@@ -1,44 +1,61 @@
 -- Pieces and playlists when edits are made and more edits come.
 use Rattle.std.proofs.Common.{◌≡◌, ℕ, zero, suc, ◌*◌, ◌≤◌, ℤ, List, ◌++◌, length, refl, sym, ap, ◌∙◌}
 use Rattle.std.proofs.Math.Path.{fun_ext}
-use Rattle.std.specs.Prelude.{slice_get, Option, Some, None}
+use Rattle.std.specs.Prelude.{Bool, true, false, if◌then◌else◌, slice_get, Option, Some, None, Ok}
+use Rattle.std.specs.Option.{option_map_or}
 use Rattle.sound_model.specs.Regions.{Sounds}
 use Rattle.sound_model.specs.Layers.{track_sample}
 use Rattle.session_model.specs.declared.session.Session.{Session}
 use Rattle.session_model.specs.declared.edit.Edit.{Edit}
-use Rattle.session_model.specs.declared.edit.Edit.TheVariants.{Roll}
 use Rattle.session_model.specs.Formed.{channels_at}
 use Rattle.session_model.specs.Frames.{interleaved}
 use Rattle.session_model.specs.Views.{track_regions}
-use Rattle.engine_model.specs.Edits.{playlist_edition, generation}
-use Rattle.engine_model.specs.Editions.{Edition, edition, after_one, taken_up, unless_refused, refusal, changed, session_after, Refusal}
+use Rattle.engine_model.specs.Edits.{playlist_edition, generation, holds_at, is_named, region_track, touches}
+use Rattle.engine_model.specs.Changes.{Change, made}
+use Rattle.engine_model.specs.Commands.{change_of}
+use Rattle.engine_model.specs.Fixed.{fixed_of}
+use Rattle.engine_model.specs.Editions.{Edition, edition, after_one}
 use Rattle.engine_model.specs.Items.{Kind, Piece, Settled, Blank}
-use Rattle.engine_model.specs.Transport.{place}
+use Rattle.engine_model.specs.Transport.{Wrap, place}
 use Rattle.engine_model.specs.Played.{samples_of, piece_samples, IsGenuineAs}
-use Rattle.engine_laws.proofs.EditionLemmas.{edition_stays}
+use Rattle.engine_laws.proofs.ChangeLemmas.{fixed_stays, names_stay}
+use Rattle.engine_laws.proofs.CommandLemmas.{untouched_stays}
+use Rattle.engine_laws.proofs.EditionLemmas.{edition_stays, holds_at_is}
+use Rattle.engine_laws.proofs.SessionLemmas.{session_after, sessions_keep}
 use Rattle.engine_laws.proofs.PlaceLemmas.{place_stays}
 use Rattle.engine_laws.specs.PlayedLaws.{IsNamed}
 
--- no edit that is carried out so far changes what the session holds
-pub session_keeps : (s : Session) (edit : Edit) → session_after s edit ≡ s
-session_keeps s Roll = refl
-session_keeps s _ = refl
+-- what no edit changes
+pub fixed_stands : (session : Session) (edits : List Edit) (k : ℕ) → fixed_of (edition session edits k).session ≡ fixed_of session
+fixed_stands session edits k = sessions_keep (λ s. fixed_of s ≡ fixed_of session) session edits refl (λ j edit s wrap c here e before. fixed_stays s c ∙ before) k
 
-unless_keeps : (e : Edition) (edit : Edit) (why : Option Refusal) → (taken_up e (unless_refused why (changed e edit))).session ≡ e.session
-unless_keeps e edit None = session_keeps e.session edit
-unless_keeps e edit (Some w) = refl
+-- where each edit leaves the session as it is, each edition's is the opening one
+pub session_stands : (session : Session) (edits : List Edit) →
+    ((j : ℕ) (edit : Edit) (s : Session) (wrap : Option Wrap) (c : Change) → slice_get edits j ≡ Some edit → change_of s wrap edit ≡ Ok c → made s c ≡ s) →
+    (k : ℕ) → (edition session edits k).session ≡ session
+session_stands session edits leaves k = sessions_keep (λ s. s ≡ session) session edits refl (λ j edit s wrap c here e before. leaves j edit s wrap c here e ∙ before) k
 
-one_keeps : (e : Edition) (edit : Option Edit) → (after_one e edit).session ≡ e.session
-one_keeps e None = refl
-one_keeps e (Some edit) = unless_keeps e edit (refusal e edit)
-
-pub session_stands : (session : Session) (edits : List Edit) (k : ℕ) → (edition session edits k).session ≡ session
-session_stands session edits zero = refl
-session_stands session edits (suc k) = one_keeps (edition session edits k) (slice_get edits k) ∙ session_stands session edits k
+-- one edit that doesn't touch a track
+one_stands : (session : Session) (e : Edition) (t : ℕ) (edit : Option Edit) → fixed_of e.session ≡ fixed_of session → option_map_or (touches session t) edit false ≡ false →
+    track_regions (after_one e edit).session t ≡ track_regions e.session t
+one_stands session e t None fixed untouched = refl
+one_stands session e t (Some edit) fixed untouched = session_after (λ s. track_regions s t ≡ track_regions e.session t) e edit refl
+    (λ c is. untouched_stays e.session e.transport.wrap edit c t is (same_touch (region_track edit) ∙ untouched))
+  where
+    same_touch : (o : Option (List ℕ)) → option_map_or (is_named e.session t) o false ≡ option_map_or (is_named session t) o false
+    same_touch None = refl
+    same_touch (Some name) = names_stay session e.session t name fixed
 
 pub playlists_stand : (session : Session) (edits : List Edit) (t k : ℕ) →
     track_regions (edition session edits k).session t ≡ track_regions (edition session edits (playlist_edition session edits t k)).session t
-playlists_stand session edits t k = ap (λ s. track_regions s t) (session_stands session edits k ∙ sym (session_stands session edits (playlist_edition session edits t k)))
+playlists_stand session edits t zero = refl
+playlists_stand session edits t (suc k) = by_touch (holds_at (touches session t) edits k) refl (playlists_stand session edits t k)
+  where
+    by_touch : (b : Bool) → holds_at (touches session t) edits k ≡ b →
+        track_regions (edition session edits k).session t ≡ track_regions (edition session edits (playlist_edition session edits t k)).session t →
+        track_regions (edition session edits (suc k)).session t ≡ track_regions (edition session edits (if b then suc k else playlist_edition session edits t k)).session t
+    by_touch true e before = refl
+    by_touch false e before = one_stands session (edition session edits k) t (slice_get edits k) (fixed_stands session edits k) (sym (holds_at_is (touches session t) edits k) ∙ e) ∙ before
 
 samples_stay : (sounds : Sounds) (session : Session) (edits more : List Edit) (t p c x : ℕ) → p ≤ length edits →
     samples_of sounds session (edits ++ more) t p c x ≡ samples_of sounds session edits t p c x

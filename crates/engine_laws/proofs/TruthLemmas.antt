@@ -23,7 +23,7 @@ use Rattle.engine_laws.proofs.TruthfulLemmas.{within_more, within_both}
 
 -- ---- the entry
 
-misses_more : (edits : List Edit) (t : ℕ) (journal : List Entry) (e : Entry) → misses edits t (journal ++ e ∷ []) ≡ misses edits t journal ++ miss_in edits t e e.state
+pub misses_more : (edits : List Edit) (t : ℕ) (journal : List Entry) (e : Entry) → misses edits t (journal ++ e ∷ []) ≡ misses edits t journal ++ miss_in edits t e e.state
 misses_more edits t [] e = append-nil (miss_in edits t e e.state)
 misses_more edits t (j ∷ js) e = ap (λ l. miss_in edits t j j.state ++ l) (misses_more edits t js e) ∙ sym (append_assoc (miss_in edits t j j.state) (misses edits t js) (miss_in edits t e e.state))
 
@@ -65,7 +65,7 @@ among_reverse g s (x ∷ xs) = ap (λ l. among s (blocks g l)) (reverse-append (
     ∙ ap (λ b. b || among s (blocks g (x ∷ []))) (among_reverse g s xs) ∙ or_comm (among s (blocks g xs)) (among s (blocks g (x ∷ []))) ∙ sym (among_append g s (x ∷ []) xs)
 
 -- what a state says of the tracks
-StateIs : ℕ → ℕ → List (List Kind) → State → Type 0
+unfoldable pub StateIs : ℕ → ℕ → List (List Kind) → State → Type 0
 StateIs g n tracks Stopped = Unit {0}
 StateIs g n tracks (Seeking u tail) = (n ≡ 0) × (waiting g 0 tracks ≡ Some (u, tail))
 StateIs g n tracks (Rolling h s) = (h ≡ g) × (s ≡ n)
@@ -75,7 +75,7 @@ unfolding StateIs
 first_is g tracks None is = (refl, refl)
 first_is g tracks (Some w) is = (refl, is)
 
-state_is : (rolls : Bool) (g n : ℕ) (tracks : List (List Kind)) → StateIs g n tracks (state_of rolls g n tracks)
+pub state_is : (rolls : Bool) (g n : ℕ) (tracks : List (List Kind)) → StateIs g n tracks (state_of rolls g n tracks)
 unfolding StateIs
 state_is false g n tracks = tt
 state_is true g zero tracks = first_is g tracks (waiting g 0 tracks) refl
@@ -119,7 +119,7 @@ waits_there g k (suc i) (y ∷ ys) xs u tail waits there at = by (has_piece g 0 
     by false e rest = let early = (same_pair k (length y) u tail (sym (ap (λ b. if b then waiting g (suc k) ys else Some (k, length y)) e) ∙ waits)).0 in absurd (omega arith)
 
 -- a miss of the track in a new entry: its block isn't among what was received
-IsNewMiss : ℕ → ℕ → List Kind → List Miss → Type 0
+unfoldable pub IsNewMiss : ℕ → ℕ → List Kind → List Miss → Type 0
 IsNewMiss g n xs ms = (ms ≡ []) ⊎ ((ms ≡ record { generation = g; block = n; tail = length xs } ∷ []) × (has_piece g n xs ≡ false))
 
 miss_of : (g n h s : ℕ) (xs : List Kind) (b : Bool) → h ≡ g → s ≡ n → has_piece h s xs ≡ b → IsNewMiss g n xs (miss_of_play h s (if b then Heard (newest h s xs) else Short (length xs)))
@@ -137,14 +137,16 @@ seek_of g n u tail t tracks xs false none waits there e = inl refl
 seek_of g n u tail t tracks xs true none waits there e = let same : u ≡ t = eqb-true u t e in let is = waits_there g 0 t tracks xs u tail waits there (omega arith) in
     inr (ap (λ k. record { generation = g; block = k; tail = tail } ∷ []) (sym none) ∙ ap (λ k. record { generation = g; block = n; tail = k } ∷ []) is.0, ap (λ k. has_piece g k xs) none ∙ is.1)
 
-new_misses : (edits : List Edit) (t settled n : ℕ) (tracks : List (List Kind)) (xs : List Kind) (takes : List Take) (state : State) → length takes ≡ length tracks → slice_get tracks t ≡ Some xs →
-    StateIs (generation edits (length edits)) n tracks state →
-    IsNewMiss (generation edits (length edits)) n xs (miss_in edits t (record { edition = length edits; settled = settled; state = state; notes = notes_of state tracks takes }) state)
+pub new_misses : (edits : List Edit) (t r settled n : ℕ) (tracks : List (List Kind)) (xs : List Kind) (takes : List Take) (state : State) → length takes ≡ length tracks →
+    slice_get tracks t ≡ Some xs →
+    StateIs (generation edits r) n tracks state →
+    IsNewMiss (generation edits r) n xs (miss_in edits t (record { edition = r; settled = settled; state = state; notes = notes_of state tracks takes }) state)
 unfolding StateIs IsNewMiss
-new_misses edits t settled n tracks xs takes Stopped many there is = inl refl
-new_misses edits t settled n tracks xs takes (Seeking u tail) many there is = seek_of (generation edits (length edits)) n u tail t tracks xs (u == t) is.0 is.1 there refl
-new_misses edits t settled n tracks xs takes (Rolling h s) many there is = subst (λ p. IsNewMiss (generation edits (length edits)) n xs (miss_of_play h s p)) (sym (note_is (Rolling h s) tracks takes t xs many there))
-    (miss_of (generation edits (length edits)) n h s xs (has_piece h s xs) is.0 is.1 refl)
+new_misses edits t r settled n tracks xs takes Stopped many there is = inl refl
+new_misses edits t r settled n tracks xs takes (Seeking u tail) many there is = seek_of (generation edits r) n u tail t tracks xs (u == t) is.0 is.1 there refl
+new_misses edits t r settled n tracks xs takes (Rolling h s) many there is = subst (λ p. IsNewMiss (generation edits r) n xs (miss_of_play h s p))
+    (sym (note_is (Rolling h s) tracks takes t xs many there))
+    (miss_of (generation edits r) n h s xs (has_piece h s xs) is.0 is.1 refl)
 
 -- ---- the entry, put together
 
@@ -192,35 +194,34 @@ looks_none : (depth g n : ℕ) (xs : List Kind) (old before tails : List ℕ) �
 looks_none depth g n xs old before tails within (inl look) = ap (is_within old) (look.1 ∙ append_assoc before look.0 (length (reverse xs) ∷ [])) ∙ within_more old before (look.0 ++ length (reverse xs) ∷ []) within
 looks_none depth g n xs old before tails within (inr look) = ap (is_within old) look.5 ∙ within_more old before look.2 within
 
-both_true : {a b : Bool} → a ≡ true → b ≡ true → a && b ≡ true
+pub both_true : {a b : Bool} → a ≡ true → b ≡ true → a && b ≡ true
 both_true {a} {b} h k = and_from a b h k
 
-by_misses : (edits : List Edit) (depth t g n : ℕ) (xs : List Kind) (before tails : List ℕ) (journal : List Entry) (ms : List Miss) → IsNewMiss g n xs ms →
-    HasLooked depth g n (reverse xs) before tails → TruthStands edits depth t (reverse xs) before journal →
-    (list_all (is_missing (reverse xs)) (misses edits t journal ++ ms) ≡ true) × (is_within (looked depth (reverse xs) (misses edits t journal ++ ms)) tails ≡ true)
-    × (list_all (λ m. nat_le m.tail (length (reverse xs))) (misses edits t journal ++ ms) ≡ true)
+-- the new misses are missing, and none names more items than were received
+pub more_missing : (g n : ℕ) (xs : List Kind) (old ms : List Miss) → IsNewMiss g n xs ms →
+    list_all (is_missing (reverse xs)) old ≡ true → list_all (λ m. nat_le m.tail (length (reverse xs))) old ≡ true →
+    (list_all (is_missing (reverse xs)) (old ++ ms) ≡ true) × (list_all (λ m. nat_le m.tail (length (reverse xs))) (old ++ ms) ≡ true)
 unfolding IsNewMiss
-by_misses edits depth t g n xs before tails journal ms (inl none) look old = by ms none
-  where
-    by : (l : List Miss) → l ≡ [] →
-        (list_all (is_missing (reverse xs)) (misses edits t journal ++ l) ≡ true) × (is_within (looked depth (reverse xs) (misses edits t journal ++ l)) tails ≡ true)
-        × (list_all (λ m. nat_le m.tail (length (reverse xs))) (misses edits t journal ++ l) ≡ true)
-    by l e = let same : misses edits t journal ++ l ≡ misses edits t journal = ap (λ k. misses edits t journal ++ k) e ∙ append-nil (misses edits t journal) in (
-      ap (list_all (is_missing (reverse xs))) same ∙ old.missing,
-      ap (λ k. is_within (looked depth (reverse xs) k) tails) same ∙ looks_none depth g n xs (looked depth (reverse xs) (misses edits t journal)) before tails old.looked_for look,
-      ap (list_all (λ m. nat_le m.tail (length (reverse xs)))) same ∙ old.within,
-    )
-by_misses edits depth t g n xs before tails journal ms (inr one) look old = (
-  ap (λ l. list_all (is_missing (reverse xs)) (misses edits t journal ++ l)) one.0
-      ∙ list_all-append (is_missing (reverse xs)) (misses edits t journal) (record { generation = g; block = n; tail = length xs } ∷ [])
-      ∙ both_true old.missing (both_true (one_missing g n xs one.1) refl),
-  ap (λ l. is_within (looked depth (reverse xs) (misses edits t journal ++ l)) tails) one.0
-      ∙ ap (λ l. is_within l tails) (looked_more depth (reverse xs) (misses edits t journal) (record { generation = g; block = n; tail = length xs } ∷ []))
-      ∙ looks_by depth g n xs (looked depth (reverse xs) (misses edits t journal)) before tails (was_held depth (reverse xs) (record { generation = g; block = n; tail = length xs })) refl old.looked_for look,
-  ap (λ l. list_all (λ m. nat_le m.tail (length (reverse xs))) (misses edits t journal ++ l)) one.0
-      ∙ list_all-append (λ m. nat_le m.tail (length (reverse xs))) (misses edits t journal) (record { generation = g; block = n; tail = length xs } ∷ [])
-      ∙ both_true old.within (both_true (le-leb (length xs) (length (reverse xs)) (grind (arith, length-reverse xs))) refl),
+more_missing g n xs old ms (inl none) missing within = let same : old ++ ms ≡ old = ap (λ k. old ++ k) none ∙ append-nil old in
+    (ap (list_all (is_missing (reverse xs))) same ∙ missing, ap (list_all (λ m. nat_le m.tail (length (reverse xs)))) same ∙ within)
+more_missing g n xs old ms (inr one) missing within = (
+  ap (λ l. list_all (is_missing (reverse xs)) (old ++ l)) one.0
+      ∙ list_all-append (is_missing (reverse xs)) old (record { generation = g; block = n; tail = length xs } ∷ [])
+      ∙ both_true missing (both_true (one_missing g n xs one.1) refl),
+  ap (λ l. list_all (λ m. nat_le m.tail (length (reverse xs))) (old ++ l)) one.0
+      ∙ list_all-append (λ m. nat_le m.tail (length (reverse xs))) old (record { generation = g; block = n; tail = length xs } ∷ [])
+      ∙ both_true within (both_true (le-leb (length xs) (length (reverse xs)) (grind (arith, length-reverse xs))) refl),
 )
+
+-- and they were looked for
+pub more_looked : (depth g n : ℕ) (xs : List Kind) (before tails : List ℕ) (old ms : List Miss) → IsNewMiss g n xs ms →
+    HasLooked depth g n (reverse xs) before tails → is_within (looked depth (reverse xs) old) before ≡ true → is_within (looked depth (reverse xs) (old ++ ms)) tails ≡ true
+unfolding IsNewMiss
+more_looked depth g n xs before tails old ms (inl none) look within = ap (λ k. is_within (looked depth (reverse xs) k) tails) (ap (λ k. old ++ k) none ∙ append-nil old)
+    ∙ looks_none depth g n xs (looked depth (reverse xs) old) before tails within look
+more_looked depth g n xs before tails old ms (inr one) look within = ap (λ l. is_within (looked depth (reverse xs) (old ++ l)) tails) one.0
+    ∙ ap (λ l. is_within l tails) (looked_more depth (reverse xs) old (record { generation = g; block = n; tail = length xs } ∷ []))
+    ∙ looks_by depth g n xs (looked depth (reverse xs) old) before tails (was_held depth (reverse xs) (record { generation = g; block = n; tail = length xs })) refl within look
 
 pub truth_stands_with_its_entry : (session : Session) (edits : List Edit) (depth t : ℕ) (before tails : List ℕ) (tracks : List (List Kind)) (xs : List Kind) (journal : List Entry) →
     slice_get tracks t ≡ Some xs → length tracks ≡ length session.tracks.items →
@@ -230,11 +231,11 @@ pub truth_stands_with_its_entry : (session : Session) (edits : List Edit) (depth
 truth_stands_with_its_entry session edits depth t before tails tracks xs journal there many look old =
     let r : ℕ = length edits in let g : ℕ = generation edits r in let n : ℕ = rolled g (reverse journal) in let rolls : Bool = (edition session edits r).transport.rolling in
     let state : State = state_of rolls g n tracks in let e : Entry = entry_of session edits (reverse journal) tracks (no_takes session) r in
-    let new = new_misses edits t e.settled n tracks xs (no_takes session) state (length-replicate (length session.tracks.items) Off ∙ sym many) there (state_is rolls g n tracks) in
-    let all = by_misses edits depth t g n xs before tails journal (miss_in edits t e state) new look old in
+    let new = new_misses edits t r e.settled n tracks xs (no_takes session) state (length-replicate (length session.tracks.items) Off ∙ sym many) there (state_is rolls g n tracks) in
+    let all = more_missing g n xs (misses edits t journal) (miss_in edits t e state) new old.missing old.within in
     let more = misses_more edits t journal e in record {
       missing = ap (list_all (is_missing (reverse xs))) more ∙ all.0;
-      looked_for = ap (λ l. is_within (looked depth (reverse xs) l) tails) more ∙ all.1;
-      within = ap (list_all (λ m. nat_le m.tail (length (reverse xs)))) more ∙ all.2;
+      looked_for = ap (λ l. is_within (looked depth (reverse xs) l) tails) more ∙ more_looked depth g n xs before tails (misses edits t journal) (miss_in edits t e state) new look old.looked_for;
+      within = ap (list_all (λ m. nat_le m.tail (length (reverse xs)))) more ∙ all.1;
       none_lost = lost_more t 0 journal e (off_at state tracks (length session.tracks.items) t) ∙ old.none_lost;
     }

@@ -5,7 +5,6 @@ use Rattle.std.specs.List.{list_all}
 use Rattle.std.proofs.lemmas.Bool.{and_parts, and_from, le-leb, leb-true, eq-eqb, ltb-true, true≢false}
 use Rattle.session_model.specs.declared.edit.Edit.{Edit}
 use Rattle.engine_model.specs.Edits.{generation, starts}
-use Rattle.engine_model.specs.Editions.{edition}
 use Rattle.engine_model.specs.Items.{Kind, among, blocks}
 use Rattle.engine_model.specs.Journal.{State, Stopped, Seeking, Rolling, Entry}
 use Rattle.engine_model.specs.Cycle.{is_held}
@@ -38,17 +37,17 @@ held_by depth xs ys m true some le = ap (λ b. nat_lt 0 m.tail && b && is_held d
     ∙ ap (λ x. nat_lt 0 m.tail && nat_le m.tail (length xs) && is_held depth m.generation m.block x)
     (item_stays (m.tail - 1) xs ys (grind (arith, leb-true m.tail (length xs) le, ltb-true 0 m.tail some)))
 
-all_missing : (xs ys : List Kind) (ms : List Miss) → list_all (λ m. nat_le m.tail (length xs)) ms ≡ true → list_all (is_missing xs) ms ≡ true → list_all (is_missing (xs ++ ys)) ms ≡ true
+pub all_missing : (xs ys : List Kind) (ms : List Miss) → list_all (λ m. nat_le m.tail (length xs)) ms ≡ true → list_all (is_missing xs) ms ≡ true → list_all (is_missing (xs ++ ys)) ms ≡ true
 all_missing xs ys [] le all = refl
 all_missing xs ys (m ∷ ms) le all = let low = and_parts (nat_le m.tail (length xs)) (list_all (λ k. nat_le k.tail (length xs)) ms) le in let here = and_parts (is_missing xs m) (list_all (is_missing xs) ms) all in
     and_from (is_missing (xs ++ ys) m) (list_all (is_missing (xs ++ ys)) ms) (miss_stays xs ys m low.0 ∙ here.0) (all_missing xs ys ms low.1 here.1)
 
-all_within : (xs ys : List Kind) (ms : List Miss) → list_all (λ m. nat_le m.tail (length xs)) ms ≡ true → list_all (λ m. nat_le m.tail (length (xs ++ ys))) ms ≡ true
+pub all_within : (xs ys : List Kind) (ms : List Miss) → list_all (λ m. nat_le m.tail (length xs)) ms ≡ true → list_all (λ m. nat_le m.tail (length (xs ++ ys))) ms ≡ true
 all_within xs ys [] le = refl
 all_within xs ys (m ∷ ms) le = let low = and_parts (nat_le m.tail (length xs)) (list_all (λ k. nat_le k.tail (length xs)) ms) le in
     and_from (nat_le m.tail (length (xs ++ ys))) (list_all (λ k. nat_le k.tail (length (xs ++ ys))) ms) (tail_stays m.tail xs ys low.0) (all_within xs ys ms low.1)
 
-looked_stays : (depth : ℕ) (xs ys : List Kind) (ms : List Miss) → list_all (λ m. nat_le m.tail (length xs)) ms ≡ true → looked depth (xs ++ ys) ms ≡ looked depth xs ms
+pub looked_stays : (depth : ℕ) (xs ys : List Kind) (ms : List Miss) → list_all (λ m. nat_le m.tail (length xs)) ms ≡ true → looked depth (xs ++ ys) ms ≡ looked depth xs ms
 looked_stays depth xs ys [] le = refl
 looked_stays depth xs ys (m ∷ ms) le = let low = and_parts (nat_le m.tail (length xs)) (list_all (λ k. nat_le k.tail (length xs)) ms) le in
     ap (λ b. if b then looked depth (xs ++ ys) ms else m.tail ∷ looked depth (xs ++ ys) ms) (held_by depth xs ys m (nat_lt 0 m.tail) refl low.0)
@@ -107,7 +106,8 @@ same_state edits extra t e Stopped is = refl
 same_state edits extra t e (Seeking u tail) is = ap (λ g. if u == t then record { generation = g; block = 0; tail = tail } ∷ [] else []) is
 same_state edits extra t e (Rolling g s) is = refl
 
-misses_stay : (edits extra : List Edit) (t : ℕ) (journal : List Entry) → list_all (λ e. nat_le e.edition (length edits)) journal ≡ true → misses (edits ++ extra) t journal ≡ misses edits t journal
+pub misses_stay : (edits extra : List Edit) (t : ℕ) (journal : List Entry) → list_all (λ e. nat_le e.edition (length edits)) journal ≡ true →
+    misses (edits ++ extra) t journal ≡ misses edits t journal
 misses_stay edits extra t [] all = refl
 misses_stay edits extra t (e ∷ es) all = let low = and_parts (nat_le e.edition (length edits)) (list_all (λ k. nat_le k.edition (length edits)) es) all in
     ap (λ l. l ++ misses (edits ++ extra) t es) (same_state edits extra t e e.state (count_stays starts edits extra e.edition (leb-true e.edition (length edits) low.0)))

@@ -10,6 +10,7 @@ use Rattle.engine_model.specs.Journal.{Heard, Take, Off, Entry, rolled, note_of}
 use Rattle.engine_model.specs.Order.{is_ordered_newest}
 use Rattle.engine_model.specs.Cycle.{entry_of}
 use Rattle.engine_model.specs.Fits.{is_lawful_newest}
+pub use Rattle.engine_model.specs.Made.{Receives}
 use Rattle.engine_laws.specs.Entered.{GoneOn, Backed, HeardAt}
 
 -- an entry that was made at block s of generation g, now that block r of generation h is next
@@ -35,11 +36,6 @@ pub record JournalInvariant (session : Session) (edits : List Edit) (tracks : Li
   pub many : length tracks ≡ length session.tracks.items
   pub ordered : AreOrdered session edits tracks
   pub stand : EntriesStand edits tracks (generation edits (length edits)) (rolled (generation edits (length edits)) entries) entries
-
--- more was received of each track
-pub record Receives (old new : List (List Kind)) : Type 0 where
-  pub many : length new ≡ length old
-  pub each : (t : ℕ) (xs ys : List Kind) → slice_get old t ≡ Some xs → slice_get new t ≡ Some ys → (more : List Kind) × (ys ≡ more ++ xs)
 
 -- it stands when more is received,
 abbrev pub StandsWhileReceiving : Type 0

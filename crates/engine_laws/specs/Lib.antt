@@ -11,4 +11,5 @@ pub mod JournalLaws
 pub mod PlayedLaws
 pub mod JournalInvariant
 pub mod TruthLaws
+pub mod MadeLaws
 pub mod SerialLaws

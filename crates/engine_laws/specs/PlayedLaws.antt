@@ -59,10 +59,10 @@ pub record IsOfTrack (session : Session) (edits : List Edit) (samples : Samples)
   pub named : list_all (is_of t) items ≡ true
   pub genuine : All (IsGenuine session edits samples) items
 
--- The block that genuine pieces make of an entry is the block that the entry stands for; so far in plain sessions.
+-- The block that genuine pieces make of an entry is the block that the entry stands for, in every edition whose session is valid.
 abbrev pub GenuinePiecesMakeTheBlock : Type 0
 GenuinePiecesMakeTheBlock = (session : Session) (edits : List Edit) (samples : Samples) (before : List Entry) (tracks : List (List Item)) (takes : List Take) (r : ℕ) →
-    IsValid session → is_plain session ≡ true → length tracks ≡ length session.tracks.items → length takes ≡ length tracks →
+    IsValid (edition session edits r).session → length tracks ≡ length session.tracks.items → length takes ≡ length tracks →
     ((t : ℕ) (items : List Item) → slice_get tracks t ≡ Some items → IsOfTrack session edits samples t items) →
     let e = entry_of session edits before (map (map (λ i. i.kind)) tracks) takes r in mixed session edits tracks e ≡ block session edits samples e
 

@@ -6,6 +6,7 @@ mod editions;
 mod heard;
 mod journal_invariant;
 mod journals;
+mod made;
 mod numbers;
 mod order;
 mod played;
@@ -22,6 +23,10 @@ pub use heard::{
 };
 pub use journal_invariant::{stands_while_editing, stands_while_receiving, stands_with_its_entry};
 pub use journals::{accepted_is_accepted, lawful_stays, plain_is_lawful};
+pub use made::{
+    looks_stand_while_editing, looks_stand_while_receiving, looks_stand_with_its_entry,
+    made_goes_on, made_stays, what_is_made_is_lawful, what_is_made_is_missing,
+};
 pub use numbers::{
     mark_changes_nothing, marks_are_held_or_in_force, new_block_is_farthest,
     new_generation_has_nothing, newest_mark_is_in_force, newest_mark_is_of_its_edition,

@@ -23,12 +23,11 @@ pub fn plain_master_sums()
     plain_desk_sums();
 }
 
-/// The block that genuine pieces make of an entry is the block that the entry stands for, in a plain session.
+/// The block that genuine pieces make of an entry is the block that the entry stands for, in every edition whose session
+/// is valid.
 pub fn genuine_pieces_make_the_block()
     ensures { GenuinePiecesMakeTheBlock }
-{
-    plain_desk_sums();
-}
+{}
 
 /// The file of a plain session's master is its header, the bytes of each entry's block, and zeros for the cycles that weren't
 /// made.

@@ -1,5 +1,5 @@
--- Editions, generations and places of worked runs, and refusals of the transport's commands.
-use Rattle.std.proofs.Common.{◌≡◌, ℕ, List, [], ◌∷◌, refl, true, false, codes, map, Some, None, Err}
+-- Editions, generations and places of worked runs.
+use Rattle.std.proofs.Common.{◌≡◌, ℕ, List, [], ◌∷◌, refl, true, false, codes, map, None}
 use Rattle.std.specs.List.{range_with_len}
 use Rattle.ses_units.specs.declared.mode.Mode.TheVariants.{Play as ByLane}
 use Rattle.ses_units.specs.declared.shape.Shape.TheVariants.{Linear, Slow}
@@ -8,7 +8,7 @@ use Rattle.session_model.specs.declared.edit.Edit.TheVariants.{Roll, Stop, Quit,
 use Rattle.session_model.proofs.SessionVectors.{base}
 use Rattle.engine_model.specs.Edits.{touches, starts, playlist_edition, generation, has_quit}
 use Rattle.engine_model.specs.Transport.{at_rest, place}
-use Rattle.engine_model.specs.Editions.{opening, edition, apply, why_not, refusal, Limit, Edits, Far, LoopEmpty, NoLoop}
+use Rattle.engine_model.specs.Editions.{edition}
 use Rattle.engine_model.proofs.Worked.{two_tracks, quieter, wait_then_locate, overwrite_heard}
 
 -- ---- which edits touch which playlist, and which start a generation: one of each command
@@ -107,22 +107,3 @@ edition_three = refl
 
 stopped_again : (edition base (Roll ∷ Recording true ∷ Stop ∷ []) 3).transport ≡ record at_rest { recording = true }
 stopped_again = refl
-
-far_is_refused : apply (opening base) (Locate 1099511627776) ≡ Err (Far 1099511627776)
-far_is_refused = refl
-
-just_before_is_not : refusal (opening base) (Locate 1099511627775) ≡ None
-just_before_is_not = refl
-
--- the first that applies is named
-loops_are_refused : why_not (opening base) (Loop 1099511627776 1099511627776) ∷ why_not (opening base) (Loop 0 1099511627777)
-    ∷ why_not (opening base) (Loop 5 5) ∷ why_not (opening base) (Loop 4 5) ∷ why_not (opening base) LoopOff ∷ []
-    ≡ Some (Far 1099511627776) ∷ Some (Far 1099511627777) ∷ Some LoopEmpty ∷ None ∷ Some NoLoop ∷ []
-loops_are_refused = refl
-
-loop_off_ends_a_loop : why_not (edition base (Loop 2 5 ∷ []) 1) LoopOff ≡ None
-loop_off_ends_a_loop = refl
-
-full_is_refused : refusal (record (opening base) { number = 10000 }) Roll ∷ refusal (record (opening base) { number = 9999 }) Roll ∷ []
-    ≡ Some (Limit Edits) ∷ None ∷ []
-full_is_refused = refl

@@ -1,6 +1,6 @@
 -- What a list of accepted edits says of playlists and generations (own). Edits count from 1: edition k is the state
 -- after the first k of them.
-use Rattle.std.specs.Prelude.{ℕ, zero, suc, Bool, true, false, if◌then◌else◌, List, [], ◌∷◌, Option, Some, None, slice_get}
+use Rattle.std.specs.Prelude.{ℕ, zero, suc, Bool, true, false, ◌&&◌, nat_le, if◌then◌else◌, List, [], ◌∷◌, Option, Some, None, slice_get}
 use Rattle.std.specs.Option.{option_map_or}
 use Rattle.std.specs.Str.{bytes_eq}
 use Rattle.session_model.specs.declared.session.Session.{Session}
@@ -105,6 +105,43 @@ is_quit (Opaque track id on) = false
 is_quit (RegionGain track id gain) = false
 is_quit (Fade track id fade_in fade_out) = false
 is_quit (Shape track id shape_in shape_out) = false
+
+-- ---- what the forms of a control line say of an edit's numbers; that they fit 64 bits, and what a name is, its types say
+
+abbrev pub is_id : ℕ → Bool
+is_id id = nat_le 1 id && nat_le id 999999
+
+abbrev pub is_layer : ℕ → Bool
+is_layer layer = nat_le layer 65535
+
+abbrev pub keeps_forms : Edit → Bool
+keeps_forms Roll = true
+keeps_forms Stop = true
+keeps_forms Quit = true
+keeps_forms (Recording on) = true
+keeps_forms (Locate to) = true
+keeps_forms (Loop from to) = true
+keeps_forms LoopOff = true
+keeps_forms (Arm track on) = true
+keeps_forms (Solo track on) = true
+keeps_forms (Mute route on) = true
+keeps_forms (Gain route gain) = true
+keeps_forms (Pan route left right) = true
+keeps_forms (Mode route mode) = true
+keeps_forms (Point route at gain) = true
+keeps_forms (Unpoint route at) = true
+keeps_forms (Connect route target) = true
+keeps_forms (Send route target pre gain) = true
+keeps_forms (Unsend route target) = true
+keeps_forms (Add track id source start long at layer) = is_id id && nat_le 1 long && is_layer layer
+keeps_forms (Remove track id) = is_id id
+keeps_forms (Move track id at) = is_id id
+keeps_forms (Trim track id start long) = is_id id && nat_le 1 long
+keeps_forms (Layer track id layer) = is_id id && is_layer layer
+keeps_forms (Opaque track id on) = is_id id
+keeps_forms (RegionGain track id gain) = is_id id
+keeps_forms (Fade track id fade_in fade_out) = is_id id
+keeps_forms (Shape track id shape_in shape_out) = is_id id
 
 -- ---- the first k edits of a list
 

@@ -1,6 +1,11 @@
 -- Editions and places; what is sent, in which order, and what is due; entries and when a journal of them is lawful.
 pub mod Edits
 pub mod Transport
+pub mod Refusals
+pub mod Changes
+pub mod Commands
+pub mod MayMake
+pub mod Fixed
 pub mod Editions
 pub mod Items
 pub mod Order
@@ -11,5 +16,10 @@ pub mod Cycle
 pub mod Played
 pub mod Mixed
 pub mod Truth
+pub mod Made
 pub mod Plain
+pub mod Lines
+pub mod Replies
+pub mod Takes
+pub mod Waited
 pub mod PlainSession

@@ -1,22 +1,23 @@
 -- What a look leaves of each track, and the entry and the block that a cycle then makes.
 use Rattle.std.proofs.Common.{◌≡◌, ℕ, ◌≤◌, List, length, map, ap, ◌∙◌, sym, subst, slice_index_or, replicate, arith}
 use Rattle.std.specs.Prelude.{Bool, true}
-use Rattle.std.proofs.lemmas.List.{length-map}
+use Rattle.std.proofs.lemmas.List.{length-map, length-replicate}
 use Rattle.std.proofs.lemmas.Option.{slice_get_within, get_or_from_slice_get}
 use Rattle.session_model.specs.declared.session.Session.{Session}
 use Rattle.session_model.specs.declared.edit.Edit.{Edit}
 use Rattle.engine_model.specs.Edits.{generation}
 use Rattle.engine_model.specs.Editions.{edition}
 use Rattle.engine_model.specs.Journal as engine
-use Rattle.engine_model.specs.Journal.{rolled, is_rolling_in}
+use Rattle.engine_model.specs.Journal.{rolled, is_rolling, is_rolling_in}
 use Rattle.engine_model.specs.Cycle.{settled_number, state_of, notes_of}
 use Rattle.engine_model.specs.Fits.{fits}
 use Rattle.engine_model.specs.Mixed.{mixed_in}
 use Rattle.sound_model.specs.Wav.{sound_bytes}
-use Rattle.engine_laws.proofs.EntryNotesLemmas.{entry_fits}
+use Rattle.engine_laws.specs.JournalInvariant.{no_takes}
+use Rattle.engine_laws.proofs.EntryNotesLemmas.{entry_fits, none_fit}
 use Rattle.engine_laws.proofs.PlainSessionLemmas.{item_at}
 use Rattle.edition_log.specs.EditionState.{EditionState as Edition}
-use Rattle.edition_log.proofs.PlayLaws.{editions_play_their_places}
+use Rattle.edition_log.proofs.PlayLaws.{editions_play_their_places, stands_at}
 use Rattle.disk_ring.specs.Receiver.{Receiver}
 use Rattle.piece_item.specs.declared.item.Item.{Item}
 use Rattle.cycle_journal.specs.declared.entry.Entry.{Entry}
@@ -65,7 +66,13 @@ module _ {W : Type 0} (heard : Heard) (e : Edition) (p : ProcessState W) (may : 
       (subst (λ plays. AreHeard (position_of p) plays p.playbacks) (sym hears.plays) (heard_there heard.session e.edits p may.playing may.looked))
 
   pub hears_in : IsHeardIn p.block heard
-  hears_in = record { valid = may.playing.valid; plain = may.plain; frames = sym may.playing.block; count = sym may.playing.plays ∙ ap length (sym hears.plays) }
+  hears_in = record {
+    valid = may.playing.valid;
+    plain = may.plain;
+    frames = sym may.playing.block;
+    count = sym may.playing.plays ∙ ap length (sym hears.plays);
+    stands = subst (λ edits. (edition heard.session edits (length edits)).session ≡ heard.session) (sym hears.edits) (stands_at heard.session e (length e.edits) may.edition);
+  }
 
   pub few_tracks : (playbacks : List TrackPlayback) → playbacks ≡ p.playbacks → length playbacks ≤ 32
   few_tracks playbacks are = omega (arith, ap length are, may.playing.playbacks, may.playing.valid.formed.limits.tracks)
@@ -93,5 +100,10 @@ module _ {W : Type 0} (heard : Heard) (e : Edition) (p : ProcessState W) (may : 
       ∙ ap (λ k. sound_bytes 16 (mixed_in heard.session e.edits (map received_items p.ends.plays.items) (length e.edits) k)) (ap (λ x. x.state) is)
 
 pub it_fits : {W : Type 0} (s : Session) (e : Edition) (p : ProcessState W) → MayCycle s e p → fits s e.edits (entries_of p) (next_entry s e p) ≡ true
-it_fits s e p may = entry_fits s e.edits (map received_kinds p.ends.plays.items) (entries_of p) (length-map p.ends.plays.items received_kinds ∙ may.playing.plays)
-    (sym (editions_play_their_places s e may.edition).quit ∙ may.quit) (sym (ap (λ k. k.transport.recording) may.edition.state) ∙ may.recording)
+it_fits s e p may = entry_fits s e.edits (length e.edits) (map received_kinds p.ends.plays.items) (no_takes s) (entries_of p) (omega arith) many
+    (length-replicate (length s.tracks.items) engine.Off ∙ sym many) (sym (editions_play_their_places s e may.edition).quit ∙ may.quit)
+    (none_fit (edition s e.edits (length e.edits)) (is_rolling (next_entry s e p).state) (entries_of p) 0 (length s.tracks.items)
+    (sym (ap (λ k. k.transport.recording) may.edition.state) ∙ may.recording))
+  where
+    many : length (map received_kinds p.ends.plays.items) ≡ length s.tracks.items
+    many = length-map p.ends.plays.items received_kinds ∙ may.playing.plays

@@ -16,7 +16,7 @@ use Rattle.disk_ring.specs.Receiver.{Receiver}
 use Rattle.play_window.specs.Offers.{Offered, kinds, last_generation, last_next, AreInOrder, is_later, is_piece_of, is_passed, last_given, piece_of}
 use Rattle.play_window.specs.WindowState.{IsNoEarlier}
 use Rattle.play_window.specs.Laws.{Shows}
-use Rattle.play_window.proofs.BoxLemmas.{unless, when}
+use Rattle.play_window.proofs.BoxLemmas.{unless}
 use Rattle.play_window.proofs.GivenLemmas.{passed_is}
 use Rattle.play_window.proofs.ShowLemmas.{windows_show_the_newest}
 use Rattle.process_cycle.specs.declared.playback.SpareBox.{SpareBox}

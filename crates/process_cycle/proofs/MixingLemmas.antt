@@ -19,13 +19,13 @@ use Rattle.session_model.specs.Views.{routes_of}
 use Rattle.session_model.specs.Valid.{IsValid}
 use Rattle.session_model.specs.Frames.{interleaved}
 use Rattle.engine_model.specs.Items as engine
+use Rattle.engine_model.specs.Editions.{edition}
 use Rattle.engine_model.specs.Transport.{place}
 use Rattle.engine_model.specs.Played.{master_channels}
 use Rattle.engine_model.specs.Journal as journal
 use Rattle.engine_model.specs.Mixed.{newest_samples, received_sample, mixed_at, mixed_in}
 use Rattle.engine_model.specs.PlainSession.{is_plain}
 use Rattle.engine_laws.specs.PlayedLaws.{total, PlainMasterSums}
-use Rattle.engine_laws.proofs.PlayedLemmas.{session_stands}
 use Rattle.engine_laws.proofs.PlainSessionLemmas.{mono_at}
 use Rattle.piece_item.specs.declared.item.Item.{Item}
 use Rattle.disk_ring.specs.Receiver.{Receiver}
@@ -140,12 +140,12 @@ sums_more at plays playbacks t block sums new d all lt is adds are = let r = rin
 gone : (a n : ℕ) → a + n - a ≡ n
 gone a n = omega arith
 
-frame_is : PlainMasterSums → (s : Session) (edits : List Edit) (at : PlayPosition) (tracks : List (List engine.Item)) (many r i : ℕ) → IsValid s → is_plain s ≡ true → length s.tracks.items ≡ many
+frame_is : PlainMasterSums → (s : Session) (edits : List Edit) (at : PlayPosition) (tracks : List (List engine.Item)) (many r i : ℕ) → IsValid s → is_plain s ≡ true → (edition s edits r).session ≡ s → length s.tracks.items ≡ many
     → mixed_at s edits tracks r at.generation at.next (at.next * s.block + i) 0 ≡ clip (total (λ t. clip (block_sample at tracks i t)) 0 many)
-frame_is law s edits at tracks many r i valid plain count = let x = place edits at.generation (at.next * s.block + i) in
+frame_is law s edits at tracks many r i valid plain stands count = let x = place edits at.generation (at.next * s.block + i) in
     let heard : ℕ → ℕ → ℤ = received_sample s tracks at.generation at.next (at.next * s.block + i - at.next * s.block) in
     let more : length s.tracks.items < length s.routes.items = valid.formed.limits.master in
-    ap (λ ss. master_sample (routes_of ss) heard x 0) (session_stands s edits r)
+    ap (λ ss. master_sample (routes_of ss) heard x 0) stands
     ∙ law s heard x valid plain
     ∙ ap clip (total_same (λ t. clip (heard t 0)) (λ t. clip (block_sample at tracks i t)) 0 (length s.tracks.items)
     (λ t lt. ap clip (ap (λ n. received_sample s tracks at.generation at.next n t 0) (gone (at.next * s.block) i)
@@ -156,12 +156,12 @@ frame_is law s edits at tracks many r i valid plain count = let x = place edits 
     total_same f g t zero same = refl
     total_same f g t (suc n) same = both (same t (omega arith)) (total_same f g (suc t) n (λ k lt. same k (omega arith)))
 
-pub block_is : PlainMasterSums → (s : Session) (edits : List Edit) (at : PlayPosition) (tracks : List (List engine.Item)) (many r : ℕ) (sums : List ℤ) → IsValid s → is_plain s ≡ true → length s.tracks.items ≡ many
+pub block_is : PlainMasterSums → (s : Session) (edits : List Edit) (at : PlayPosition) (tracks : List (List engine.Item)) (many r : ℕ) (sums : List ℤ) → IsValid s → is_plain s ≡ true → (edition s edits r).session ≡ s → length s.tracks.items ≡ many
     → AreSums at tracks many s.block sums → map clip sums ≡ mixed_in s edits tracks r (journal.Rolling at.generation at.next)
-block_is law s edits at tracks many r sums valid plain count are = let more : length s.tracks.items < length s.routes.items = valid.formed.limits.master in
+block_is law s edits at tracks many r sums valid plain stands count are = let more : length s.tracks.items < length s.routes.items = valid.formed.limits.master in
     let mine : ℕ → ℕ → ℤ = mixed_at s edits tracks r at.generation at.next in
     fill_by_all (λ k. mine (at.next * s.block + k / 1) (k % 1)) (map clip sums) (s.block * 1) (pos 0) (length-map sums clip ∙ are.long ∙ omega arith)
-    (λ k lt. get_or-map clip sums k (pos 0) (pos 0) (omega (arith, are.long)) ∙ ap clip (are.each k (omega arith)) ∙ sym (frame_is law s edits at tracks many r k valid plain count)
+    (λ k lt. get_or-map clip sums k (pos 0) (pos 0) (omega (arith, are.long)) ∙ ap clip (are.each k (omega arith)) ∙ sym (frame_is law s edits at tracks many r k valid plain stands count)
     ∙ by_one k (k / 1) (k % 1) (grind arith) (grind arith))
     ∙ ap (λ c. interleaved mine c (at.next * s.block) (s.block * c)) (sym (mono_at s (length s.routes.items - 1) plain (omega arith)))
   where

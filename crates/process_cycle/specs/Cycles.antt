@@ -5,6 +5,7 @@ use Rattle.sound_model.specs.Wav.{sound_bytes}
 use Rattle.session_model.specs.declared.session.Session.{Session}
 use Rattle.session_model.specs.declared.edit.Edit.{Edit}
 use Rattle.session_model.specs.Valid.{IsValid}
+use Rattle.engine_model.specs.Editions.{edition}
 use Rattle.engine_model.specs.Items as engine
 use Rattle.engine_model.specs.Items.{Piece, Settled, Blank}
 use Rattle.engine_model.specs.Journal as journal
@@ -81,6 +82,8 @@ pub record Heard : Type 0 where
 pub record IsHeardIn (block : ℕ) (heard : Heard) : Type 0 where
   pub valid : IsValid heard.session
   pub plain : is_plain heard.session ≡ true
+  -- which the edits have left as it was
+  pub stands : (edition heard.session heard.edits (length heard.edits)).session ≡ heard.session
   pub frames : heard.session.block ≡ block
   pub count : length heard.session.tracks.items ≡ length heard.plays
 

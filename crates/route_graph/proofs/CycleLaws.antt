@@ -10,7 +10,8 @@ use Rattle.std.proofs.lemmas.List.Sums.{position_or_len_is}
 use Rattle.std.proofs.lemmas.List.Quantifiers.{position-Some}
 use Rattle.sound_model.specs.Routes.{Route, Reaches, by_link, then_on, NoCycle, links}
 use Rattle.sound_laws.proofs.Cases.{by_test}
-use Rattle.route_graph.specs.Cycles.{reaches_below, reaches, first_on_cycle, IsFirstOnCycle}
+use Rattle.sound_model.specs.Reach.{reaches_below, reaches}
+use Rattle.route_graph.specs.Cycles.{first_on_cycle, IsFirstOnCycle}
 use Rattle.route_graph.specs.Laws.{ReachingIsTested, FirstOnCycleIsFound, NoneIsFoundWithoutCycle}
 
 -- ---- two tests, either of which is enough, and two that are both wanted

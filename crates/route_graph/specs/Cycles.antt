@@ -1,17 +1,8 @@
 -- The routes that lead back to themselves, and the links that would make such.
-use Rattle.std.specs.Prelude.{◌≡◌, ℕ, zero, suc, ◌<◌, ◌⊎◌, Bool, true, ◌&&◌, ◌||◌, List, [], ◌∷◌, length, Option, position}
+use Rattle.std.specs.Prelude.{◌≡◌, ℕ, zero, suc, ◌<◌, ◌⊎◌, true, List, [], ◌∷◌, length, Option, position}
 use Rattle.std.specs.List.{range_with_len}
-use Rattle.sound_model.specs.Routes.{Route, Reaches, links}
-
--- one route leads to another by one or more links, and all routes between them stand at places below `high`
-unfoldable pub reaches_below : List Route → ℕ → ℕ → ℕ → Bool
-reaches_below routes zero from to = links routes from to
-reaches_below routes (suc high) from to =
-    reaches_below routes high from to || (reaches_below routes high from high && reaches_below routes high high to)
-
--- one route leads to another by one or more links
-unfoldable pub reaches : List Route → ℕ → ℕ → Bool
-reaches routes from to = reaches_below routes (length routes) from to
+use Rattle.sound_model.specs.Routes.{Route, Reaches}
+use Rattle.sound_model.specs.Reach.{reaches}
 
 -- the first route, in their order, that leads back to itself
 unfoldable pub first_on_cycle : List Route → Option ℕ

@@ -1,7 +1,8 @@
 -- The tests that compute are the facts.
 use Rattle.std.specs.Prelude.{◌≡◌, ◌↔◌, ℕ, ◌<◌, List, length, Some, None, IsTrue}
 use Rattle.sound_model.specs.Routes.{Route, Reaches, NoCycle}
-use Rattle.route_graph.specs.Cycles.{reaches, first_on_cycle, IsFirstOnCycle, Closes, with_link}
+use Rattle.sound_model.specs.Reach.{reaches}
+use Rattle.route_graph.specs.Cycles.{first_on_cycle, IsFirstOnCycle, Closes, with_link}
 
 abbrev pub ReachingIsTested : Type 0
 ReachingIsTested = (routes : List Route) (from to : ℕ) → IsTrue (reaches routes from to) ↔ Reaches routes from to

@@ -1,9 +1,11 @@
 //! A folder of the system: its files by name.
+ghost use Rattle.std.specs.Prelude.{◌<◌, length, IfSome, IfOk};
 
 use crate::Failed;
+use crate::kept_files::{Kept, KeptFiles};
 use std::alloc::AllocError;
 use std::fs;
-use std::fs::OpenOptions;
+use std::fs::{Metadata, OpenFile, OpenOptions};
 use std::io::ErrorKind;
 use std::rt::Files;
 
@@ -13,13 +15,6 @@ pub(crate) struct Folder<R> {
     rt: R,
     folder: String,
     path: String,
-}
-
-/// A file that stays open, by its name.
-#[derive(Drop)]
-pub(crate) struct Kept<F> {
-    pub(crate) name: String,
-    pub(crate) file: F,
 }
 
 impl<R: Files + AllocGlobal + Clone + Drop> Folder<R> {
@@ -39,42 +34,63 @@ impl<R: Files + AllocGlobal + Clone + Drop> Folder<R> {
         self.path.push_str(name)
     }
 
+    /// What the system says of the file, None where it is absent.
+    fn data(&mut self, name: &str) -> Result<Option<Metadata>, Failed> {
+        self.find(name).map_err(|_| Failed)?;
+        match fs::metadata(&self.rt, self.path.as_str()) {
+            Ok(data) => Ok(Some(data)),
+            Err(e) if e.kind() == ErrorKind::NotFound => Ok(None),
+            Err(_) => Err(Failed),
+        }
+    }
+
     /// Opens the file, None where it is absent.
     pub(crate) fn open(
         &mut self,
         name: &str,
         how: &OpenOptions,
-    ) -> Result<Option<Kept<R::File>>, Failed> {
+    ) -> Result<Option<R::File>, Failed> {
         self.find(name).map_err(|_| Failed)?;
-        let name = String::from_str(self.rt.alloc(), name).map_err(|_| Failed)?;
         match how.open(&self.rt, self.path.as_str()) {
-            Ok(file) => Ok(Some(Kept { name, file })),
+            Ok(file) => Ok(Some(file)),
             Err(e) if e.kind() == ErrorKind::NotFound => Ok(None),
             Err(_) => Err(Failed),
         }
     }
 
-    /// The kept file, if it is the one of that name. Otherwise opens that one, None where it is
-    /// absent, and closes the kept one.
+    /// The place of the file among those that are kept open, None where it is absent. One that was kept, and that its
+    /// name names no more, is closed, and that is a fault: another program took it away.
     pub(crate) fn open_kept(
         &mut self,
-        kept: Option<Kept<R::File>>,
+        kept: &mut KeptFiles<R::File>,
         name: &str,
         how: &OpenOptions,
-    ) -> Result<Option<Kept<R::File>>, Failed> {
-        match kept {
-            Some(kept) if kept.name.as_str() == name => Ok(Some(kept)),
-            _ => self.open(name, how),
+    ) -> Result<Option<usize>, Failed>
+        ensures { IfOk result (λ found. IfSome found (λ i. i < length kept.new.files.items)) }
+    {
+        if let Some(place) = kept.place(name) {
+            if let Some(data) = self.data(name)?
+                && kept.is_still(place, &data)
+            {
+                return Ok(Some(place));
+            }
+            kept.close(place);
+            return Err(Failed);
         }
+        let Some(file) = self.open(name, how)? else {
+            return Ok(None);
+        };
+        let data = file.metadata().map_err(|_| Failed)?;
+        let name = String::from_str(self.rt.alloc(), name).map_err(|_| Failed)?;
+        let place = kept.keep(Kept::new(name, &data, file));
+        Ok(Some(place.map_err(|_| Failed)?))
     }
 
     /// The bytes of the file, None where it is absent.
     pub(crate) fn size(&mut self, name: &str) -> Result<Option<u64>, Failed> {
-        self.find(name).map_err(|_| Failed)?;
-        match fs::metadata(&self.rt, self.path.as_str()) {
-            Ok(data) => Ok(Some(data.len())),
-            Err(e) if e.kind() == ErrorKind::NotFound => Ok(None),
-            Err(_) => Err(Failed),
+        match self.data(name)? {
+            Some(data) => Ok(Some(data.len())),
+            None => Ok(None),
         }
     }
 

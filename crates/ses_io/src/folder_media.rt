@@ -2,21 +2,22 @@
 ghost use Rattle.std.specs.Prelude.{◌≡◌, ◌<◌, ◌≤◌, length, IfOk};
 
 use crate::errors::counted;
-use crate::folder::{Folder, Kept};
+use crate::folder::Folder;
+use crate::kept_files::KeptFiles;
 use crate::{Failed, Media, tries};
 use std::fs::OpenOptions;
 use std::marker::Model;
 use std::os::unix::fs::FileExt;
 use std::rt::Files;
 
-/// The files of a folder. The last one that was read and the last one that grew stay open, so
-/// that the next `read_at` or `append` of the same file is one call of the system. Contracts see a
-/// folder as its two counts of faults.
+/// The files of a folder. Up to 64 that were read and up to 64 that grew stay open, so that each
+/// is opened once. One that another program takes away or puts another in place of meanwhile is a
+/// fault when it is asked for. Contracts see a folder as its two counts of faults.
 #[derive(Drop)]
 pub struct FolderMedia<R: Files> {
     folder: Folder<R>,
-    read: Option<Kept<R::File>>,
-    grown: Option<Kept<R::File>>,
+    read: KeptFiles<R::File>,
+    grown: KeptFiles<R::File>,
     read_faults: u64,
     write_faults: u64,
 }
@@ -37,10 +38,11 @@ where
     pub fn new(rt: R, folder: String) -> FolderMedia<R>
         ensures { result ≡ record { read_faults = 0; write_faults = 0 } }
     {
+        let alloc = rt.alloc();
         FolderMedia {
             folder: Folder::new(rt, folder),
-            read: None,
-            grown: None,
+            read: KeptFiles::new(alloc),
+            grown: KeptFiles::new(alloc),
             read_faults: 0,
             write_faults: 0,
         }
@@ -50,16 +52,12 @@ where
         ensures count { IfOk result (λ n. n ≤ length buf.new) }
         ensures faults { self.new ≡ self.old }
     {
-        let kept = self.read.take();
-        let Some(kept) = self
-            .folder
-            .open_kept(kept, name, OpenOptions::new().read(true))?
-        else {
-            return Ok(0);
-        };
-        let n = tries::read_at(&kept.file, at, buf)?;
-        self.read = Some(kept);
-        Ok(n)
+        let mut how = OpenOptions::new();
+        let how = how.read(true);
+        match self.folder.open_kept(&mut self.read, name, how)? {
+            Some(place) => tries::read_at(&self.read.files[place].file, at, buf),
+            None => Ok(0),
+        }
     }
 
     fn try_append(&mut self, name: &str, bytes: &[u8]) -> Result<usize, Failed>
@@ -67,17 +65,12 @@ where
         ensures some { IfOk result (λ n. 0 < length bytes.now → 0 < n) }
         ensures faults { self.new ≡ self.old }
     {
-        self.close(name);
-        let kept = self.grown.take();
-        let Some(mut kept) = self
-            .folder
-            .open_kept(kept, name, OpenOptions::new().append(true).create(true))?
-        else {
-            return Err(Failed);
-        };
-        let n = tries::write(&mut kept.file, bytes)?;
-        self.grown = Some(kept);
-        Ok(n)
+        let mut how = OpenOptions::new();
+        let how = how.append(true).create(true);
+        match self.folder.open_kept(&mut self.grown, name, how)? {
+            Some(place) => tries::write(&mut self.grown.files[place].file, bytes),
+            None => Err(Failed),
+        }
     }
 
     fn try_write(&mut self, name: &str, at: u64, bytes: &[u8]) -> Result<usize, Failed>
@@ -85,21 +78,9 @@ where
         ensures some { IfOk result (λ n. 0 < length bytes.now → 0 < n) }
         ensures faults { self.new ≡ self.old }
     {
-        self.close(name);
         match self.folder.open(name, OpenOptions::new().write(true))? {
-            Some(kept) => tries::write_at(&kept.file, at, bytes),
+            Some(file) => tries::write_at(&file, at, bytes),
             None => Err(Failed),
-        }
-    }
-
-    /// Closes the file that was read last, if it is this one.
-    fn close(&mut self, name: &str)
-        ensures { self.new ≡ self.old }
-    {
-        if let Some(kept) = &self.read
-            && kept.name.as_str() == name
-        {
-            self.read = None;
         }
     }
 }

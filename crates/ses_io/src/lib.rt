@@ -10,6 +10,7 @@ mod file_source;
 mod fixed_list;
 mod folder;
 mod folder_media;
+mod kept_files;
 mod media;
 mod mem_file;
 mod mem_media;

@@ -24,8 +24,9 @@ pub trait Source: Drop {
         ensures cause { HasCause (outside.faults self.old) (outside.faults self.new) result };
 }
 
-/// Fills the buffer, or stops at the source's end; answers how many bytes it read. After Failed
-/// the bytes that the source has lost stand in the buffer's front.
+/// Fills the buffer, or stops at the source's end; answers how many bytes it read. It asks for at
+/// least one byte each time, and no more once the buffer is full. After Failed the bytes that the
+/// source has lost stand in the buffer's front.
 pub fn read_full<S: Source>(source: &mut S, buf: &mut [u8]) -> Result<usize, Failed>
     ensures bound { IfOk result (λ n. n ≤ length buf.new) }
     ensures bytes { S.outside.tells
@@ -34,6 +35,7 @@ pub fn read_full<S: Source>(source: &mut S, buf: &mut [u8]) -> Result<usize, Fai
         → IfOk result (λ n. n ≡ min (length buf.new) (length (S.outside.left source.old))) }
     ensures some { S.outside.tells
         → OnErr result (TakesSome (S.outside.left source.old) (S.outside.left source.new) buf.new) }
+    ensures none { length buf.old ≡ 0 → source.new ≡ source.old }
     ensures cause { HasCause (S.outside.faults source.old) (S.outside.faults source.new) result }
 {
     let mut filled = 0;

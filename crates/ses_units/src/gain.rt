@@ -1,5 +1,6 @@
 //! A gain in 16.16 fixed point: 65,536 is unity, and 262,144 is the loudest.
 ghost use Rattle.std.specs.Prelude.{◌≡◌, ℕ, ◌≤◌, ◌<◌, ◌↔◌, IfOk, IsErr};
+ghost use Rattle.sound_model.specs.Numbers.{unity};
 
 use crate::limits::LOUDEST;
 use std::marker::Model;
@@ -29,6 +30,13 @@ impl Model for Gain {
 impl Gain {
     /// The gain that leaves a sample as it is.
     pub const UNITY: Gain = Gain { number: 65_536 };
+
+    /// `UNITY`, which is the unity of the definitions.
+    pub fn unity() -> Gain
+        ensures { result ≡ unity }
+    {
+        Gain::UNITY
+    }
 
     /// The gain of so many 65,536ths, at most 262,144.
     pub fn new(n: u32) -> Result<Gain, TooLoud>

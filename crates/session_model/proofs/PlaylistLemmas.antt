@@ -36,7 +36,7 @@ length-with_region r (q ∷ qs) = by_test (is_below r q)
     (λ e. rw e refl)
     (λ e. rw e (ap suc (length-with_region r qs)))
 
-All-with_region : (P : Region → Type 0) (r : Region) (qs : List Region) → P r → All P qs → All P (with_region r qs)
+pub All-with_region : (P : Region → Type 0) (r : Region) (qs : List Region) → P r → All P qs → All P (with_region r qs)
 All-with_region P r [] here h = All-cons P r [] here h
 All-with_region P r (q ∷ qs) here h = by_test (is_below r q)
     (λ e. rw e (All-cons P r (q ∷ qs) here h))

@@ -26,8 +26,8 @@ pub record IsSample (v : ℤ) : Type 0 where
 
 -- what sources tell of themselves
 pub record FramesOutside (S : Type 0) : Type 1 where
-  -- whether the frames are known: ⊤ in memory, ⊥ for real files
-  pub tells : Type 0
+  -- whether the frames are known at this moment: ⊤ in memory, ⊥ for real files
+  pub tells : S → Type 0
   -- the channels of each source, always told
   pub channels : S → List ℕ
   -- the frames of each source

@@ -47,15 +47,19 @@ impl MemFrames {
 }
 
 impl Frames for MemFrames {
-    ghost use Rattle.std.specs.Prelude.{⊤};
-    ghost use Rattle.session_model.specs.MemFrames.{channels_in, told_in};
+    ghost use Rattle.std.specs.Prelude.{⊤, List};
+    ghost use Rattle.session_model.specs.MemFrames.{Sound, channels_in, told_in};
 
     ghost outside = { record {
-      tells = ⊤;
+      tells = λ m. ⊤;
       channels = λ m. channels_in m.sources;
       frames = λ m. told_in m.sources;
       faults = λ m. m.faults;
     } };
+
+    ghost Rest = { List Sound };
+
+    ghost rest = { λ m. m.sources };
 
     /// At a listed call nothing is written.
     fn frames(&mut self, source: u32, from: u64, out: &mut [i32]) -> Result<(), Failed>

@@ -8,7 +8,8 @@ use Rattle.std.proofs.lemmas.List.{length-map}
 use Rattle.std.proofs.lemmas.List.FromFn.{length-range_with_len}
 use Rattle.sound_laws.proofs.Cases.{by_test}
 use Rattle.sound_model.specs.Routes as links
-use Rattle.route_graph.specs.Cycles.{reaches, first_on_cycle}
+use Rattle.sound_model.specs.Reach.{reaches}
+use Rattle.route_graph.specs.Cycles.{first_on_cycle}
 use Rattle.route_graph.proofs.CycleLaws.{none_is_found_without_cycle}
 use Rattle.session_model.specs.declared.route.Route.{Route}
 use Rattle.session_model.specs.declared.session.Session.{Session}

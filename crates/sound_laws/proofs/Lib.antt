@@ -6,6 +6,8 @@ mod LaneLaws
 mod DeskLaws
 mod DepthLaws
 pub mod CycleLaws
+pub mod ReachLaws
+pub mod ChannelLaws
 mod PlainLaws
 mod WalkLaws
 mod HeadLaws

@@ -42,7 +42,7 @@ SlowLiesBelow = (v : ℕ) → v ≤ unity → shaped Slow v ≤ shaped Linear v
 abbrev pub SlowMeetsLinear : Type 0
 SlowMeetsLinear = (shaped Slow 0 ≡ shaped Linear 0) × (shaped Slow unity ≡ shaped Linear unity)
 
--- of a region whose fades become slow: no fade value rises, and where one was 0 or unity it stays
+-- of a region whose fades become slow: no fade value rises
 abbrev pub SlowFadesLieBelow : Type 0
 SlowFadesLieBelow = (r : Region) (i : ℕ) → fade (record r { shape_in = Slow; shape_out = Slow }) i ≤ fade (record r { shape_in = Linear; shape_out = Linear }) i
 

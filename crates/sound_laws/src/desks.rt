@@ -1,6 +1,6 @@
 //! The laws of tracks, busses and the master.
 
-ghost use Rattle.sound_laws.specs.Desks.{MutedIsSilent, SoloSilencesOtherTracks, OnlyLinksFeed, PlainDeskSums, CyclesAreFound, DeeperIsTheSame};
+ghost use Rattle.sound_laws.specs.Desks.{MutedIsSilent, SoloSilencesOtherTracks, OnlyLinksFeed, PlainDeskSums, CyclesAreFound, FewerLinksNoCycle, DeeperIsTheSame, OnlyOwnChannels};
 
 /// A muted route gives nothing, through its output or any send.
 #[tactic(auto, using(crate::proofs::DeskLaws::muted_is_silent))]
@@ -37,4 +37,14 @@ pub fn deeper_is_the_same()
 #[tactic(auto, using(crate::proofs::CycleLaws::cycles_are_found))]
 pub fn cycles_are_found()
     ensures { CyclesAreFound }
+{}
+
+/// Where each link is one of others, by which no route leads back to itself, none does.
+pub fn fewer_links_no_cycle()
+    ensures { FewerLinksNoCycle }
+{}
+
+/// What a route gives on its own channels depends on no channel of a track that the track's route hasn't.
+pub fn only_own_channels()
+    ensures { OnlyOwnChannels }
 {}

@@ -8,8 +8,8 @@ mod tracks;
 mod values;
 
 pub use desks::{
-    cycles_are_found, deeper_is_the_same, muted_is_silent, only_links_feed, plain_desk_sums,
-    solo_silences_other_tracks,
+    cycles_are_found, deeper_is_the_same, fewer_links_no_cycle, muted_is_silent, only_links_feed,
+    only_own_channels, plain_desk_sums, solo_silences_other_tracks,
 };
 pub use files::{
     extensible_head_is_read, extensible_sounds_as_plain, longer_walk_is_the_same,

@@ -5,3 +5,4 @@ pub mod Regions
 pub mod Lanes
 pub mod Layers
 pub mod Routes
+pub mod Reach

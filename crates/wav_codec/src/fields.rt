@@ -83,8 +83,8 @@ impl Fields {
         self.tag == EXTENSIBLE
     }
 
-    /// The fields with the first 16 bytes of the extension: its size, which is 22 at least, and half
-    /// of the subformat. Valid bits and the mask of channels aren't looked at.
+    /// The fields with the first 16 bytes of the extension: its size, which is 22 at least, and
+    /// half of the subformat. Valid bits and the mask of channels aren't looked at.
     pub(crate) fn with_extension(self, bytes: &[u8]) -> Fields
         requires { 16 ≤ length bytes.now }
         ensures { result ≡ with_pcm (begins_pcm_extension bytes.now) self }

@@ -50,6 +50,55 @@ const WRITES: &[(&str, u64, &[u8], Result<usize, Failed>)] = &[
     ("a.wav/b.wav", 0, b"a", Err(Failed)),
 ];
 
+/// After another program took the file away: each that was open is a fault once, and then the file is absent.
+const TAKEN_AWAY: &[Call] = &[
+    Call::Read("a.wav", 0, 4, Err(Failed)),
+    Call::Read("a.wav", 0, 4, Ok((0, *b"...."))),
+    Call::Append("a.wav", b"new", Err(Failed)),
+    Call::Append("a.wav", b"new", Ok(3)),
+    Call::Read("a.wav", 0, 4, Ok((3, *b"new."))),
+];
+
+/// After another file was put in its place.
+const REPLACED: &[Call] = &[
+    Call::Read("a.wav", 0, 4, Err(Failed)),
+    Call::Read("a.wav", 0, 4, Ok((1, *b"a..."))),
+];
+
+// Whether files that other programs take away or replace are missed.
+fn are_missed(rt: HostRuntime, path: &str, media: &mut FolderMedia<HostRuntime>) -> bool {
+    let Ok(file) = format!(in rt.alloc(); "{path}/a.wav") else {
+        return false;
+    };
+    let Ok(other) = format!(in rt.alloc(); "{path}/take-t-1.wav") else {
+        return false;
+    };
+    fs::remove_file(&rt, file.as_str()).is_ok()
+        && does_all(media, TAKEN_AWAY)
+        && fs::rename(&rt, other.as_str(), file.as_str()).is_ok()
+        && does_all(media, REPLACED)
+}
+
+// Whether more files than stay open answer as if they did: each grows twice by its letter, and is read after that.
+fn many_serve(rt: HostRuntime, media: &mut FolderMedia<HostRuntime>) -> bool {
+    for turn in 0..3_usize {
+        for n in 0..70_u8 {
+            let Ok(name) = format!(in rt.alloc(); "many-{n}.wav") else {
+                return false;
+            };
+            let mut found = [0; 4];
+            let right = match turn {
+                2 => media.read_at(name.as_str(), 0, &mut found) == Ok(2) && found == [n, n, 0, 0],
+                _ => media.append(name.as_str(), &[n]) == Ok(1),
+            };
+            if !right {
+                return false;
+            }
+        }
+    }
+    true
+}
+
 fn are_written(media: &mut FolderMedia<HostRuntime>) -> bool {
     for (name, at, bytes, want) in WRITES {
         if media.write_at(name, *at, bytes) != *want {
@@ -66,7 +115,9 @@ fn serves(rt: HostRuntime, path: &str, media: &mut FolderMedia<HostRuntime>) -> 
         && are_written(media)
         && does_all(media, AFTER)
         && are_made(rt, path)
-        && is_heard_in_folder(rt.alloc(), media);
+        && is_heard_in_folder(rt.alloc(), media)
+        && are_missed(rt, path, media)
+        && many_serve(rt, media);
     let gone = fs::remove_dir_all(&rt, path).is_ok();
     made && right && gone && does_all(media, &[Call::Any("", Err(Failed))])
 }

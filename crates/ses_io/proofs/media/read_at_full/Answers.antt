@@ -1,5 +1,5 @@
 -- One read more goes on behind those so far.
-use Rattle.std.proofs.Common.{◌≡◌, ℕ, arith, ◌∙◌, subst, List}
+use Rattle.std.proofs.Common.{◌≡◌, ℕ, ◌∙◌, subst, List}
 use Rattle.ses_io.specs.Files.{Files, content, IsPart}
 use Rattle.ses_io.proofs.Streams.{IsPart-then, fits-then}
 use Rattle.ses_io.proofs.media.read_at_full.Goals as goal

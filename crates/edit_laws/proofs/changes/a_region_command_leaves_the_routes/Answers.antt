@@ -1,0 +1,6 @@
+-- The law is the lemma.
+use Rattle.edit_laws.proofs.CommandLaws as laws
+use Rattle.edit_laws.proofs.changes.a_region_command_leaves_the_routes.Goals as goal
+
+pub returns : goal.returns
+returns c = laws.a_region_command_leaves_the_routes

@@ -1,0 +1,7 @@
+-- The law as its lemma has it.
+use Rattle.machine_laws.proofs.AnswerLemmas as lemmas
+use Rattle.machine_laws.proofs.answers.replies_are_those_of_lines.Goals as goal
+
+-- src/answers.rt
+pub returns : goal.returns
+returns c = lemmas.replies_are_those_of_lines

@@ -1,0 +1,7 @@
+-- The law as its lemma has it.
+use Rattle.machine_laws.proofs.EventLemmas as lemmas
+use Rattle.machine_laws.proofs.machine.every_event_keeps_it.Goals as goal
+
+-- src/machine.rt
+pub returns : goal.returns
+returns c = lemmas.every_event_keeps_it

@@ -1,0 +1,3 @@
+-- Lemmas of the kernels.
+pub mod Items
+pub mod Formulas
