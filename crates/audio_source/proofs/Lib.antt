@@ -6,3 +6,8 @@ pub mod PairLaws
 pub mod HeadLaws
 pub mod StretchLaws
 pub mod SourceLaws
+pub mod SlotLaws
+pub mod StoreLaws
+pub mod PieceLaws
+pub mod LineLaws
+pub mod HeldLaws

@@ -9,11 +9,9 @@ use Rattle.std.proofs.lemmas.List.Elements.{All-append}
 use Rattle.std.proofs.lemmas.List.FromFn.{get_or-map-range_with_len, length-map-range_with_len, fill_by_all}
 use Rattle.std.proofs.lemmas.Slice.{take-put_mid}
 use borrow.Rule.Slice.PartMut.{put_mid, same_len_mid}
-use Rattle.sound_model.specs.Wav.{Head, sound}
 use Rattle.wav_codec.specs.Info.{IsFound}
 use Rattle.wav_codec.specs.declared.info.WavInfo.{WavInfo}
 use Rattle.session_model.specs.Frames.{interleaved, IsSample}
-use Rattle.audio_source.proofs.FrameLaws.{sound_past}
 use Rattle.audio_source.proofs.ByteLaws.{depth_width, least_size}
 
 pub interleaved-at : (f : ℕ → ℕ → ℤ) (channels from n k : ℕ) → k < n → get_or (interleaved f channels from n) k (pos 0) ≡ f (from + k / channels) (k % channels)
@@ -23,13 +21,13 @@ pub length-interleaved : (f : ℕ → ℕ → ℤ) (channels from n : ℕ) → l
 length-interleaved f channels from n = length-map-range_with_len (λ i. f (from + i / channels) (i % channels)) 0 n
 
 -- whole frames on, the frames and the channels go on
-frame_on : (a k channels : ℕ) → 1 ≤ channels → a % channels ≡ 0 → (a + k) / channels ≡ a / channels + k / channels
+pub frame_on : (a k channels : ℕ) → 1 ≤ channels → a % channels ≡ 0 → (a + k) / channels ≡ a / channels + k / channels
 frame_on a k channels h whole =
     let parts = div-add-mod' k channels in let wholes = div-add-mod' a channels in
     let sum : a + k ≡ (a / channels + k / channels) * channels + k % channels = grind arith in
     ap (λ n. n / channels) sum ∙ div-mul-add (a / channels + k / channels) channels (k % channels) (mod-lt k h)
 
-channel_on : (a k channels : ℕ) → 1 ≤ channels → a % channels ≡ 0 → (a + k) % channels ≡ k % channels
+pub channel_on : (a k channels : ℕ) → 1 ≤ channels → a % channels ≡ 0 → (a + k) % channels ≡ k % channels
 channel_on a k channels h whole =
     let all = div-add-mod' (a + k) channels in let parts = div-add-mod' k channels in let wholes = div-add-mod' a channels in
     let frames = frame_on a k channels h whole in
@@ -59,19 +57,19 @@ interleaved-append f channels from a n h whole = fill_by_all (λ k. f (from + k 
     at k below (inr high) = get_or-append_right left right a k (pos 0) (length-interleaved f channels from a) high ∙ later (k - a) k (omega arith) (omega arith)
 
 -- from the end on there is nothing, wherever it is looked for
-past_end : (h : Head) (b : List ℕ) (channels from n : ℕ) → h.frames ≤ from → interleaved (sound h b) channels from n ≡ interleaved (sound h b) channels h.frames n
-past_end h b channels from n past = fill_by_all (λ k. sound h b (h.frames + k / channels) (k % channels)) (interleaved (sound h b) channels from n) n (pos 0)
-    (length-interleaved (sound h b) channels from n)
-    (λ k below. interleaved-at (sound h b) channels from n k below ∙ sound_past h b (from + k / channels) (k % channels) (omega arith) ∙ sym (sound_past h b (h.frames + k / channels) (k % channels) (omega arith)))
+past_end : (f : ℕ → ℕ → ℤ) (end channels from n : ℕ) → ((i c : ℕ) → end ≤ i → f i c ≡ pos 0) → end ≤ from → interleaved f channels from n ≡ interleaved f channels end n
+past_end f end channels from n none past = fill_by_all (λ k. f (end + k / channels) (k % channels)) (interleaved f channels from n) n (pos 0)
+    (length-interleaved f channels from n)
+    (λ k below. interleaved-at f channels from n k below ∙ none (from + k / channels) (k % channels) (omega arith) ∙ sym (none (end + k / channels) (k % channels) (omega arith)))
 
--- a first frame that is held within the source
-pub first_frame : (h : Head) (b : List ℕ) (channels first from top n : ℕ) → first ≡ min (min from top) h.frames → h.frames ≤ top →
-    interleaved (sound h b) channels first n ≡ interleaved (sound h b) channels from n
-first_frame h b channels first from top n e high = go (cases_lt from h.frames)
+-- a first frame that is held within what a count can say
+pub first_frame : (f : ℕ → ℕ → ℤ) (end channels first from top n : ℕ) → ((i c : ℕ) → end ≤ i → f i c ≡ pos 0) → first ≡ min from top → end ≤ top →
+    interleaved f channels first n ≡ interleaved f channels from n
+first_frame f end channels first from top n none e high = go (cases_lt from top)
   where
-    go : (from < h.frames) ⊎ (h.frames ≤ from) → interleaved (sound h b) channels first n ≡ interleaved (sound h b) channels from n
-    go (inl before) = ap (λ i. interleaved (sound h b) channels i n) (omega arith)
-    go (inr past) = ap (λ i. interleaved (sound h b) channels i n) (omega arith) ∙ sym (past_end h b channels from n past)
+    go : (from < top) ⊎ (top ≤ from) → interleaved f channels first n ≡ interleaved f channels from n
+    go (inl before) = ap (λ i. interleaved f channels i n) (omega arith)
+    go (inr past) = past_end f end channels first n none (omega arith) ∙ sym (past_end f end channels from n none (omega arith))
 
 -- ---- one span more
 
@@ -105,17 +103,16 @@ piece_long end done out piece s = s.same ∙ length-take-le (end - done) (drop d
 taken : (end done : ℕ) (out piece : List ℤ) → IsSpanOn end done out piece → take end (put_mid done (end - done) out piece) ≡ take done out ++ piece
 taken end done out piece s = take-put_mid done (end - done) out piece end (omega (arith, piece_long end done out piece s, s.rises)) (omega (arith, s.inside, s.rises))
 
-pub told_more : (h : Head) (b : List ℕ) (channels from first top end done : ℕ) (out piece : List ℤ) → 1 ≤ channels → IsSpanOn end done out piece → done % channels ≡ 0 →
-    first ≡ min (min (from + done / channels) top) h.frames → h.frames ≤ top → take done out ≡ interleaved (sound h b) channels from done →
-    piece ≡ interleaved (sound h b) channels first (length (take (end - done) (drop done out))) →
-    take end (put_mid done (end - done) out piece) ≡ interleaved (sound h b) channels from end
-told_more h b channels from first top end done out piece low s whole at high so_far more =
+pub told_more : (f : ℕ → ℕ → ℤ) (sound_end channels from first top end done : ℕ) (out piece : List ℤ) → ((i c : ℕ) → sound_end ≤ i → f i c ≡ pos 0) → sound_end ≤ top →
+    1 ≤ channels → IsSpanOn end done out piece → done % channels ≡ 0 → first ≡ min (from + done / channels) top → take done out ≡ interleaved f channels from done →
+    piece ≡ interleaved f channels first (length piece) → take end (put_mid done (end - done) out piece) ≡ interleaved f channels from end
+told_more f sound_end channels from first top end done out piece none high low s whole at so_far more =
     taken end done out piece s
     ∙ ap (λ l. l ++ piece) so_far
-    ∙ ap (λ l. interleaved (sound h b) channels from done ++ l) (more ∙ ap (λ n. interleaved (sound h b) channels first n) (sym s.same ∙ piece_long end done out piece s)
-    ∙ first_frame h b channels first (from + done / channels) top (end - done) at high)
-    ∙ interleaved-append (sound h b) channels from done (end - done) low whole
-    ∙ ap (λ n. interleaved (sound h b) channels from n) (omega (arith, s.rises))
+    ∙ ap (λ l. interleaved f channels from done ++ l) (more ∙ ap (λ n. interleaved f channels first n) (piece_long end done out piece s)
+    ∙ first_frame f sound_end channels first (from + done / channels) top (end - done) none at high)
+    ∙ interleaved-append f channels from done (end - done) low whole
+    ∙ ap (λ n. interleaved f channels from n) (omega (arith, s.rises))
 
 pub range_more : (end done : ℕ) (out piece : List ℤ) → IsSpanOn end done out piece → All IsSample (take done out) → All IsSample piece → All IsSample (take end (put_mid done (end - done) out piece))
 range_more end done out piece s so_far more = let K : List ℤ → Type 0 = λ l. All IsSample l in
@@ -125,7 +122,7 @@ pub range_all : (done : ℕ) (out : List ℤ) → length out ≤ done → All Is
 range_all done out all range = let K : List ℤ → Type 0 = λ l. All IsSample l in subst K (take_all done out all) range
 
 -- a file of 32 bits has fewer frames than that
-pub few_frames : (info : WavInfo) → IsFound info → info.frames ≤ 2 ^ 64 - 1
+pub few_frames : (info : WavInfo) → IsFound info → info.frames < 2 ^ 32
 few_frames info found =
     let size = least_size info.channels (info.bits / 8) found.form.one_channel (depth_width info.bits found.form.bits) in
     let more : info.frames * 1 ≤ info.frames * (info.channels * (info.bits / 8)) = mul-le-mul_left info.frames size in

@@ -6,3 +6,6 @@ pub mod Spans
 pub mod Answers
 pub mod Steps
 pub mod Laws
+pub mod Lines
+pub mod Slots
+pub mod Held

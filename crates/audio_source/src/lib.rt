@@ -4,7 +4,11 @@
 mod entry;
 mod heading;
 mod laws;
+mod line;
+mod lines;
+mod long;
 mod opening;
+mod piece;
 mod refusal;
 mod sources;
 mod span;

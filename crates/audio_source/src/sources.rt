@@ -1,38 +1,44 @@
-//! The sources of a session: all opened at once, their frames read through one buffer.
-ghost use Rattle.std.specs.Prelude.{◌≡◌, ◌%◌, ◌<◌, ◌≤◌, length, map, slice_index, IfOk, IfErr, OnOk, SomeIff, All};
+//! The sources of a session: all opened at once, their frames read by lines of 4,096, of which 64 are held.
+ghost use Rattle.std.specs.Prelude.{◌≡◌, ◌*◌, ◌%◌, ◌<◌, ◌≤◌, [], length, map, slice_index, IfOk, IfErr, OnOk, OnErr, SomeIff, All, slice_get, IfSome, ◌^◌};
 ghost use Rattle.wav_codec.specs.Info.{IsFound};
 ghost use Rattle.ses_io.specs.Outside.{OnlyReads, ReadCause};
 ghost use Rattle.session_model.specs.Frames.{interleaved, IsSample};
 ghost use Rattle.audio_source.specs.Answers.{NamesFirst, IsRefusalOf, OpenCause};
 ghost use Rattle.audio_source.specs.Opened.{opened_source, channels_of, IsListedAs, IsListed, IsOpenedAs, IsOpened};
 ghost use Rattle.audio_source.specs.Told.{source_sound};
+ghost use Rattle.audio_source.specs.Lines.{HoldsAsRead, names_of, after_asking, asked_in, IsFaultAt};
 
 use crate::entry::Entry;
+use crate::lines::Lines;
 use crate::opening::{Unopened, opened};
 use crate::refusal::{OpenRefusal, ReadFault};
-use crate::stretch::read_frames;
+use crate::stretch::frames_by_lines;
 use ses_io::Media;
 use session_model::{FileName, SourceDecl, SourceList};
 use std::alloc::Global;
 use std::marker::Model;
 
-/// OpenedSource sources. Contracts see the name of each file and the head that it had.
+/// Opened sources. Contracts see the name of each file with the head that it had, and the lines that are held.
 #[derive(Drop)]
 pub struct Sources {
     entries: Vec<Entry>,
     // The bytes of 4,096 frames of the source with the most channels.
     buffer: Vec<u8>,
+    // With room for as many frames of it.
+    lines: Lines,
 }
 
 impl Model for Sources {
-    ghost use Rattle.std.specs.Prelude.{List, map, All, vec_len};
-    ghost use Rattle.audio_source.specs.Opened.{OpenedSource, opened_source, IsReadable};
+    ghost use Rattle.std.specs.Prelude.{map};
+    ghost use Rattle.audio_source.specs.Opened.{opened_source};
+    ghost use Rattle.audio_source.specs.Lines.{SourcesState};
+    ghost use Rattle.audio_source.specs.Held.{sources_state, AreRead};
 
-    ghost Value = { List OpenedSource };
+    ghost Value = { SourcesState };
 
-    ghost view = { λ s. map opened_source s.entries.items };
+    ghost view = { λ s. sources_state (map opened_source s.entries.items) s.lines };
 
-    ghost invariant = { λ s. All (IsReadable (vec_len s.buffer)) s.entries.items };
+    ghost invariant = { λ s. AreRead s.entries.items s.buffer.items s.lines };
 }
 
 // Opens a source.
@@ -110,24 +116,30 @@ impl Sources {
         list: &SourceList,
         rate: u32,
     ) -> Result<Sources, OpenRefusal>
-        ensures listed { IfOk result (IsListed rate list.now.items) }
-        ensures told { M.outside.tells
-            → IfOk result (IsOpened (M.outside.files media.old) rate list.now.items) }
+        ensures listed { IfOk result (λ s. IsListed rate list.now.items s.opened) }
+        ensures told { M.outside.tells → IfOk result
+            (λ s. IsOpened (M.outside.files media.old) rate list.now.items s.opened) }
+        ensures held { IfOk result (λ s. s.held ≡ []) }
         ensures refused { M.outside.tells
             → IfErr result (NamesFirst (M.outside.files media.old) rate list.now.items) }
         ensures only_reads { OnlyReads M.outside media.old media.new }
         ensures cause { OpenCause M.outside media.old media.new result }
     {
         let entries = all_entries(alloc, media, list, rate)?;
-        let room = 12_288 * usize::from(widest(&entries));
-        let buffer = vec![in alloc; 0; room]?;
-        Ok(Sources { entries, buffer })
+        let room = 4096 * usize::from(widest(&entries));
+        let buffer = vec![in alloc; 0; 3 * room]?;
+        let lines = Lines::new(alloc, room)?;
+        Ok(Sources {
+            entries,
+            buffer,
+            lines,
+        })
     }
 
     /// The channels of a source, None where there is no such source.
     pub fn channels(&self, source: u32) -> Option<u16>
-        ensures { SomeIff result (source < length self.now)
-            (slice_index (channels_of self.now) source) }
+        ensures { SomeIff result (source < length self.now.opened)
+            (slice_index (channels_of self.now.opened) source) }
     {
         if source as usize >= self.entries.len() {
             return None;
@@ -135,9 +147,18 @@ impl Sources {
         Some(self.entries[source as usize].info.channels)
     }
 
-    /// Fills `out`, which holds whole frames, with the frames of a source from frame `from` on, and with 0 past its end.
-    /// Up to 4,096 frames are read in one, where the media gives them so. It takes no memory. After a fault the content
-    /// of `out` isn't said.
+    // The channels of a source that is there.
+    pub(crate) fn width(&self, source: u32) -> u16
+        requires { source < length self.now.opened }
+        ensures width { result ≡ slice_index (channels_of self.now.opened) source }
+        ensures some { 1 ≤ result }
+        ensures few { IfSome (slice_get self.now.opened source) (λ o. o.head.frames < 2 ^ 32) }
+    {
+        self.entries[source as usize].info.channels
+    }
+
+    /// Fills `out`, which holds up to 4,096 whole frames, with the frames of a source from frame `from` on, and with 0
+    /// past its end. Lines that are held aren't read. It takes no memory. After a fault the content of `out` isn't said.
     pub fn frames<M: Media>(
         &mut self,
         media: &mut M,
@@ -145,18 +166,28 @@ impl Sources {
         from: u64,
         out: &mut [i32],
     ) -> Result<(), ReadFault>
-        requires source { source < length self.old }
-        requires whole { length out.old % slice_index (channels_of self.old) source ≡ 0 }
-        ensures told { M.outside.tells → OnOk result (out.new ≡ interleaved
-            (source_sound (M.outside.files media.old) self.old source)
-            (slice_index (channels_of self.old) source) from (length out.new)) }
+        requires source { source < length self.old.opened }
+        requires whole { length out.old % slice_index (channels_of self.old.opened) source ≡ 0 }
+        requires few { length out.old ≤ 4096 * slice_index (channels_of self.old.opened) source }
+        ensures told { M.outside.tells → HoldsAsRead (M.outside.files media.old) self.old
+            → OnOk result (out.new ≡ interleaved
+            (source_sound (M.outside.files media.old) self.old.opened source)
+            (slice_index (channels_of self.old.opened) source) from (length out.new)) }
+        ensures holds { M.outside.tells → HoldsAsRead (M.outside.files media.old) self.old
+            → HoldsAsRead (M.outside.files media.old) self.new }
         ensures range { OnOk result (All IsSample out.new) }
-        ensures sources { self.new ≡ self.old }
+        ensures opened { self.new.opened ≡ self.old.opened }
+        ensures lines { OnOk result (names_of self.new.held ≡ after_asking
+            (asked_in self.old.opened source from (length out.old)) (names_of self.old.held)) }
+        ensures fault { OnErr result (IsFaultAt
+            (asked_in self.old.opened source from (length out.old))
+            (names_of self.old.held) (names_of self.new.held)) }
         ensures only_reads { OnlyReads M.outside media.old media.new }
         ensures cause { ReadCause M.outside media.old media.new result }
     {
         let entry = &self.entries[source as usize];
-        read_frames(media, entry, self.buffer.as_mut_slice(), from, out)?;
+        let buf = self.buffer.as_mut_slice();
+        frames_by_lines(media, &mut self.lines, entry, buf, source, from, out)?;
         Ok(())
     }
 }

@@ -1,5 +1,5 @@
 //! Up to 4,096 frames of a source, read in one where the media gives them so, and 0 past the end.
-ghost use Rattle.std.specs.Prelude.{◌≡◌, ◌+◌, ◌-◌, ◌*◌, ◌/◌, ◌%◌, ◌<◌, ◌≤◌, ◌++◌, pos, length, take, drop, replicate, min, IfOk, OnOk, All};
+ghost use Rattle.std.specs.Prelude.{◌≡◌, ◌+◌, ◌-◌, ◌*◌, ◌/◌, ◌%◌, ◌<◌, ◌≤◌, ◌++◌, pos, length, take, drop, replicate, min, IfOk, OnOk, OnErr, All};
 ghost use Rattle.sound_model.specs.Wav.{sound};
 ghost use Rattle.ses_io.specs.Outside.{OnlyReads, ReadCause};
 ghost use Rattle.ses_io.specs.Files.{content};
@@ -12,7 +12,8 @@ use crate::entry::Entry;
 use ses_io::{Failed, Media, read_at_full};
 use wav_codec::{WavInfo, decode};
 
-fn silence(out: &mut [i32])
+/// Fills `out` with 0.
+pub(crate) fn silence(out: &mut [i32])
     ensures { out.new ≡ replicate (length out.old) (pos 0) }
 {
     for v in out.iter_mut() {
@@ -77,6 +78,7 @@ pub(crate) fn span<M: Media>(
         (sound (head_of entry.now.info) (content (M.outside.files media.old) entry.now.file))
         entry.now.info.channels from (length out.old)) }
     ensures range { OnOk result (All IsSample out.new) }
+    ensures kept { OnErr result (out.new ≡ out.old) }
     ensures only_reads { OnlyReads M.outside media.old media.new }
     ensures cause { ReadCause M.outside media.old media.new result }
 {

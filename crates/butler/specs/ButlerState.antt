@@ -4,6 +4,11 @@ use Rattle.audio_source.specs.Opened.{OpenedSource}
 use Rattle.piece_item.specs.declared.butler_ends.ButlerEnds.{ButlerEnds}
 use Rattle.butler.specs.declared.supply.TrackSupply.{TrackSupply}
 
+-- what the samples are read from: the media, and the sources that were opened
+pub record ReaderState (V : Type 0) : Type 0 where
+  pub media : V
+  pub sources : List OpenedSource
+
 pub record ButlerState (V : Type 0) : Type 0 where
   pub media : V
   pub sources : List OpenedSource

@@ -1,5 +1,5 @@
 //! A butler: in a turn it takes acknowledgements, enters the edition, and sends what is due of each track.
-ghost use Rattle.std.specs.Prelude.{◌≡◌, ◌<◌, false, length, IfOk, IfErr, Some};
+ghost use Rattle.std.specs.Prelude.{◌≡◌, ◌<◌, false, [], length, IfOk, IfErr, Some};
 ghost use Rattle.ses_io.specs.Outside.{OnlyReads, ReadCause};
 ghost use Rattle.session_model.specs.declared.session.Session.{Session as Opening};
 ghost use Rattle.audio_source.specs.Told.{source_sound};
@@ -28,12 +28,12 @@ use std::marker::Model;
 
 /// Reads ahead and sends. Between two calls it has one spare box for each ring.
 #[derive(Drop)]
-pub struct Butler<M> {
+pub struct Butler<M: Media> {
     pub(crate) holds: Holdings<M>,
     pub(crate) ends: ButlerEnds,
 }
 
-impl<M> Model for Butler<M> {
+impl<M: Media> Model for Butler<M> {
     ghost use Rattle.std.specs.Prelude.{◌≡◌, length, IsSome};
     ghost use Rattle.butler.specs.ButlerState.{ButlerState};
     ghost use Rattle.butler.specs.Serving.{AreStocked};
@@ -66,9 +66,10 @@ impl<M: Media> Butler<M> {
         ends: ButlerEnds,
     ) -> Result<Butler<M>, M>
         ghost s: { Opening }
-        requires { MayBegin s e.now sources cycles ends }
+        requires begins { MayBegin s e.now sources.opened cycles ends }
+        requires held { sources.held ≡ [] }
         ensures serving { IfOk result (IsServing s e.now.edits) }
-        ensures given { IfOk result (IsGiven media sources cycles ends) }
+        ensures given { IfOk result (IsGiven media sources.opened cycles ends) }
         ensures back { IfErr result (λ m. m ≡ media) }
     {
         let Ok(supplies) = supplies(alloc, e) else {

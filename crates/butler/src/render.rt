@@ -12,6 +12,7 @@ ghost use Rattle.engine_model.specs.Transport.{place_of};
 ghost use Rattle.locate_loop.specs.Transport.{transport_of, IsTransport, place_after};
 ghost use Rattle.audio_source.specs.Opened.{OpenedSource, IsListed};
 ghost use Rattle.audio_source.specs.Told.{source_sound};
+ghost use Rattle.audio_source.specs.Lines.{HoldsAsRead};
 ghost use Rattle.butler.specs.Render.{IsHeardPlainly};
 
 mod run;
@@ -63,14 +64,18 @@ fn runs<M: Media>(
     first: u64,
     out: &mut [i32],
 ) -> Result<(), ReadFault>
-    requires heard { IsHeardPlainly sources.old (region_of region.now) }
+    requires heard { IsHeardPlainly sources.old.opened (region_of region.now) }
     requires transport { IsTransport transport.now }
     requires frames { first + length out.old < 2 ^ 30 }
-    ensures told { M.outside.tells → OnOk result (out.new ≡ interleaved
-        (λ n c. track_sample (source_sound (M.outside.files media.old) sources.old)
+    requires few { length out.old ≤ 4096 }
+    ensures told { M.outside.tells → HoldsAsRead (M.outside.files media.old) sources.old
+        → OnOk result (out.new ≡ interleaved
+        (λ n c. track_sample (source_sound (M.outside.files media.old) sources.old.opened)
         (region_of region.now ∷ []) c
         (place_of (transport_of transport.now) n)) 1 first (length out.old)) }
-    ensures sources { sources.new ≡ sources.old }
+    ensures holds { M.outside.tells → HoldsAsRead (M.outside.files media.old) sources.old
+        → HoldsAsRead (M.outside.files media.old) sources.new }
+    ensures opened { sources.new.opened ≡ sources.old.opened }
     ensures only_reads { OnlyReads M.outside media.old media.new }
     ensures cause { ReadCause M.outside media.old media.new result }
 {
@@ -98,15 +103,19 @@ pub(crate) fn render<M: Media>(
     requires plain { is_plain session.now ≡ true }
     requires valid { IsValid session.now }
     requires track { track < length session.now.tracks.items }
-    requires sources { IsListed session.now.rate session.now.sources.items sources.old }
+    requires sources { IsListed session.now.rate session.now.sources.items sources.old.opened }
     requires transport { IsTransport transport.now }
     requires frames { first + length out.old < 2 ^ 30 }
-    ensures told { M.outside.tells → OnOk result (out.new ≡ interleaved
-        (λ n c. track_sample (source_sound (M.outside.files media.old) sources.old)
+    requires few { length out.old ≤ 4096 }
+    ensures told { M.outside.tells → HoldsAsRead (M.outside.files media.old) sources.old
+        → OnOk result (out.new ≡ interleaved
+        (λ n c. track_sample (source_sound (M.outside.files media.old) sources.old.opened)
         (track_regions session.now track) c
         (place_of (transport_of transport.now) n)) 1 first (length out.old)) }
     ensures long { length out.new ≡ length out.old }
-    ensures sources { sources.new ≡ sources.old }
+    ensures holds { M.outside.tells → HoldsAsRead (M.outside.files media.old) sources.old
+        → HoldsAsRead (M.outside.files media.old) sources.new }
+    ensures opened { sources.new.opened ≡ sources.old.opened }
     ensures only_reads { OnlyReads M.outside media.old media.new }
     ensures cause { ReadCause M.outside media.old media.new result }
 {

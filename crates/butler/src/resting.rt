@@ -6,6 +6,7 @@ ghost use Rattle.butler.specs.Serving.{AreStocked};
 use crate::butler::Butler;
 use crate::supply::Holdings;
 use piece_item::ButlerEnds;
+use ses_io::Media;
 use std::marker::Model;
 
 /// What a butler gives back.
@@ -19,11 +20,11 @@ pub struct ButlerParts<M> {
 
 /// A butler whose ends are elsewhere.
 #[derive(Drop)]
-pub struct Resting<M> {
+pub struct Resting<M: Media> {
     holds: Holdings<M>,
 }
 
-impl<M> Model for Resting<M> {
+impl<M: Media> Model for Resting<M> {
     ghost use Rattle.std.specs.Prelude.{◌≡◌, length, IsSome};
     ghost use Rattle.butler.specs.ButlerState.{Rested};
 
@@ -42,7 +43,7 @@ impl<M> Model for Resting<M> {
     ghost invariant = { λ r. (length r.holds.nexts.items ≡ 10001) × IsSome r.holds.husk };
 }
 
-impl<M> Butler<M> {
+impl<M: Media> Butler<M> {
     /// Whether the ring of acknowledgements has answered Closed.
     pub fn over(&self) -> bool
         ensures { result ≡ self.now.ends.acks.ended }
@@ -71,7 +72,7 @@ impl<M> Butler<M> {
     }
 }
 
-impl<M> Resting<M> {
+impl<M: Media> Resting<M> {
     /// The butler with these ends: as many playback rings as before, of the rooms that they had.
     pub fn resume(self, ends: ButlerEnds) -> Butler<M>
         requires stocked { AreStocked self.supplies ends.sends.items }

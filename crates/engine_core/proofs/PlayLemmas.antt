@@ -18,7 +18,7 @@ use Rattle.engine_model.specs.Plain.{Run as PlainRun, accepted, export_commands,
 use Rattle.engine_model.specs.Played.{IsGenuine, master_file, master_form, samples_of}
 use Rattle.engine_laws.specs.PlayedLaws.{block_bytes}
 use Rattle.engine_laws.proofs.MasterLemmas.{master_file_is_its_blocks}
-use Rattle.audio_source.specs.Opened.{OpenedSource as Source}
+use Rattle.audio_source.specs.Lines.{SourcesState}
 use Rattle.audio_source.specs.Told.{source_sound}
 use Rattle.cycle_journal.specs.declared.entry.Entry.{Entry as Noted}
 use Rattle.cycle_journal.specs.JournalView.{seen_entries, seen_entry}
@@ -69,13 +69,13 @@ plain_is s cycles from = ap reverse (first (is_ok (apply (edition s [] 0) (Locat
 -- ---- the start
 
 -- in the first edition nothing is recorded, and no edit quit
-pub at_first : (s : Session) (e : Edition) (sources : List Source) (cycles : ℕ) → MayPlay s e sources cycles → IsOpen e × (e.transport.recording ≡ false)
+pub at_first : (s : Session) (e : Edition) (sources : SourcesState) (cycles : ℕ) → MayPlay s e sources cycles → IsOpen e × (e.transport.recording ≡ false)
 at_first s e sources cycles may = let is = may.edition_of.state ∙ ap (λ es. edition s es (length es)) may.first in (
   record { ended = may.not_ended; quit = ap (λ z. z.transport.quit) is },
   ap (λ z. z.transport.recording) is,
 )
 
-pub may_start : (s : Session) (e : Edition) (sources : List Source) (cycles from : ℕ) (new : Edition) → MayPlay s e sources cycles → IsControlled s from new → IsOpen new →
+pub may_start : (s : Session) (e : Edition) (sources : SourcesState) (cycles from : ℕ) (new : Edition) → MayPlay s e sources cycles → IsControlled s from new → IsOpen new →
     new.transport.recording ≡ e.transport.recording → MayStart s new sources cycles
 may_start s e sources cycles from new may controlled still_open recording = record {
   plain = may.plain;
@@ -84,6 +84,7 @@ may_start s e sources cycles from new may controlled still_open recording = reco
   quit = still_open.quit;
   untouched = controlled.untouched;
   listed = may.listed;
+  held = may.held;
   some_cycle = may.some_cycle;
   near = may.near;
 }
@@ -98,7 +99,7 @@ not_yet n = record { later = omega arith; kept = λ no. refl; raised = λ yes. a
 
 -- ---- the first cycle
 
-module _ {V W : Type 0} (media : MediaOutside V) (sink : SinkOutside W) (begun : Begun) (e : Edition) (sources : List Source) (cycles : ℕ) (m : V) (master : W) (r : Run V W)
+module _ {V W : Type 0} (media : MediaOutside V) (sink : SinkOutside W) (begun : Begun) (e : Edition) (sources : SourcesState) (cycles : ℕ) (m : V) (master : W) (r : Run V W)
     (started : HasStarted begun.session e sources cycles m master r) (told : IsTold media sink begun m sources master) where
   genuine_first : AreGenuine begun.sounds begun.session r.core.edition.edits r.core.butler.ends.sends.items
   genuine_first t d here = let edits = r.core.edition.edits in let P = λ (i : Item). IsGenuine begun.session edits (samples_of begun.sounds begun.session edits) (item_of i) in
@@ -110,7 +111,7 @@ module _ {V W : Type 0} (media : MediaOutside V) (sink : SinkOutside W) (begun :
       runs = started.plain.runs;
       sends = record {
         edits = ap (λ (z : Edition). z.edits) started.edition_is ∙ edits;
-        sounds = ap (λ o. source_sound (media.files r.core.butler.media) o) started.sources_is ∙ ap (λ v. source_sound (media.files v) sources) started.media_is ∙ sym told.sounds;
+        sounds = ap (λ o. source_sound (media.files r.core.butler.media) o) started.sources_is ∙ ap (λ v. source_sound (media.files v) sources.opened) started.media_is ∙ sym told.sounds;
         genuine = λ _. genuine_first;
       };
     };

@@ -14,7 +14,7 @@ use Rattle.engine_model.specs.Plain.{plain_cycles}
 use Rattle.engine_laws.specs.JournalInvariant.{JournalInvariant, Receives}
 use Rattle.engine_laws.specs.SerialLaws.{AreFew, none_is_held}
 use Rattle.ses_io.specs.FixedList.{Listed}
-use Rattle.audio_source.specs.Opened.{OpenedSource}
+use Rattle.audio_source.specs.Lines.{SourcesState}
 use Rattle.cycle_journal.specs.declared.entry.Entry.{Entry as Noted}
 use Rattle.cycle_journal.specs.JournalView.{seen_entries}
 use Rattle.edition_log.specs.EditionState.{EditionState as Edition, IsEditionOf}
@@ -93,7 +93,7 @@ module _ (s : Session) (w : RunEnds) (new_ends : AreNewRunEnds s w) where
       subst (IsNewIn s.depth (block_of s t)) (get_or_from_slice_get w.butler.sends.items t d d here)
       (new_in s.depth (block_of s t) (slice_index_or w.butler.sends.items t d) (slice_index_or w.process.plays.items t r) (new_ends.items.2 t d r within))
 
-  pub may_begin : (e : Edition) (sources : List OpenedSource) (cycles : ℕ) → MayStart s e sources cycles → MayBegin s e sources cycles w.butler
+  pub may_begin : (e : Edition) (sources : SourcesState) (cycles : ℕ) → MayStart s e sources cycles → MayBegin s e sources.opened cycles w.butler
   may_begin e sources cycles may = let acks = new_out s.depth 0 w.process.to_butler w.butler.acks new_ends.to_butler in record {
     plain = may.plain;
     edition_of = may.edition_of;
@@ -114,12 +114,12 @@ pub playing_for : {W : Type 0} (s : Session) (e : Edition) (p : Process W) → I
 playing_for s e p is playing = subst (λ (z : Session). IsPlaying z [] p) (session_is s e is) playing
 
 -- the workers have the ends that they were given
-pub has_workers : {V W : Type 0} (s : Session) (e : Edition) (sources : List OpenedSource) (cycles : ℕ) (media : V) (master : W) (ends : RunEnds) → AreNewRunEnds e.session ends → (w : Workers V W) →
-    HasBegun e.session cycles master ends.process w.process → IsServing s e.edits w.butler → IsGiven media sources cycles ends.butler w.butler → w.acks ≡ ends.acks → HasWorkers s e sources cycles media master w
+pub has_workers : {V W : Type 0} (s : Session) (e : Edition) (sources : SourcesState) (cycles : ℕ) (media : V) (master : W) (ends : RunEnds) → AreNewRunEnds e.session ends → (w : Workers V W) →
+    HasBegun e.session cycles master ends.process w.process → IsServing s e.edits w.butler → IsGiven media sources.opened cycles ends.butler w.butler → w.acks ≡ ends.acks → HasWorkers s e sources cycles media master w
 has_workers s e sources cycles media master ends new_ends w begun serving given acks = let theirs = sym begun.ends in let its = sym given.ends_is in record {
   begun = subst (λ (z : ProcessEnds). HasBegun e.session cycles master z w.process) theirs begun;
   serving = serving;
-  given = subst (λ z. IsGiven media sources cycles z w.butler) its given;
+  given = subst (λ z. IsGiven media sources.opened cycles z w.butler) its given;
   new_ends = subst (λ (z : ProcessEnds). AreNewRunEnds e.session (record { process = z; butler = w.butler.ends; acks = w.acks })) theirs
       (subst (λ z. AreNewRunEnds e.session (record { process = ends.process; butler = z; acks = w.acks })) its
       (subst (λ z. AreNewRunEnds e.session (record { process = ends.process; butler = ends.butler; acks = z })) (sym acks) new_ends));
@@ -140,8 +140,8 @@ invariant_first s edits = record {
   stand = tt;
 }
 
-module _ {V W : Type 0} (s : Session) (e : Edition) (sources : List OpenedSource) (cycles : ℕ) (media : V) (master : W) (may : MayStart s e sources cycles) (w : RunEnds) (new_ends : AreNewRunEnds s w)
-    (b : Butler V) (serving : IsServing s e.edits b) (given : IsGiven media sources cycles w.butler b)
+module _ {V W : Type 0} (s : Session) (e : Edition) (sources : SourcesState) (cycles : ℕ) (media : V) (master : W) (may : MayStart s e sources cycles) (w : RunEnds) (new_ends : AreNewRunEnds s w)
+    (b : Butler V) (serving : IsServing s e.edits b) (given : IsGiven media sources.opened cycles w.butler b)
     (first p : Process W) (first_ends : first.ends ≡ w.process) (first_master : first.master ≡ master) (first_journal : first.journal ≡ record { items = []; room = cycles })
     (playing : IsPlaying s e.edits p) (keeps : Keeps first p) (looks : AllLook (position_of p) first.ends.plays.items first.playbacks p.ends.plays.items p.playbacks) (first_playbacks : length first.playbacks ≡ length s.tracks.items)
   where

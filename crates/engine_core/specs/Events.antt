@@ -10,7 +10,8 @@ use Rattle.engine_model.specs.Journal.{Entry}
 use Rattle.engine_model.specs.Plain.{accepted, export_commands, plain}
 use Rattle.engine_model.specs.Played.{Samples, master_file, samples_of}
 use Rattle.engine_model.specs.PlainSession.{is_plain}
-use Rattle.audio_source.specs.Opened.{OpenedSource as Source, IsListed}
+use Rattle.audio_source.specs.Opened.{IsListed}
+use Rattle.audio_source.specs.Lines.{SourcesState}
 use Rattle.audio_source.specs.Told.{source_sound}
 use Rattle.cycle_journal.specs.JournalView.{seen_entries}
 use Rattle.edition_log.specs.EditionState.{EditionState as Edition, IsEditionOf}
@@ -28,7 +29,7 @@ use Rattle.engine_core.specs.Serial.{IsCounted}
 use Rattle.engine_core.specs.Written.{IsCutOff}
 
 -- A run may begin with this edition of session s, these sources, and so many cycles.
-pub record MayPlay (s : Session) (e : Edition) (sources : List Source) (cycles : ℕ) : Type 0 where
+pub record MayPlay (s : Session) (e : Edition) (sources : SourcesState) (cycles : ℕ) : Type 0 where
   -- the session is of those that are played so far
   pub plain : is_plain s ≡ true
   -- no edit has come yet, and one may come
@@ -36,7 +37,9 @@ pub record MayPlay (s : Session) (e : Edition) (sources : List Source) (cycles :
   pub first : e.edits ≡ []
   pub not_ended : e.ended ≡ false
   -- the sources were opened for the session's
-  pub listed : IsListed s.rate s.sources.items sources
+  pub listed : IsListed s.rate s.sources.items sources.opened
+  -- and no line of them is held yet
+  pub held : sources.held ≡ []
   pub some_cycle : 1 ≤ cycles
   pub near : cycles ≤ 100000
 
@@ -97,7 +100,7 @@ module _ {M I C W O : Type 0} where
 
   -- the sounds of what was opened
   abbrev pub sounds_opened : MediaOutside M → Opened M I C W O → Sounds
-  sounds_opened media o = source_sound (media.files o.world.media) o.sources
+  sounds_opened media o = source_sound (media.files o.world.media) o.sources.opened
 
   -- by which a track has these samples
   abbrev pub samples_opened : MediaOutside M → Opened M I C W O → Finished M I C W O → Samples

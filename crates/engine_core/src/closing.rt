@@ -11,7 +11,7 @@ use ses_io::Media;
 
 /// The butler in the newest edition, and the ends that the process left.
 #[derive(Drop)]
-pub(crate) struct Closing<M> {
+pub(crate) struct Closing<M: Media> {
     pub(crate) edition: Edition,
     pub(crate) butler: Butler<M>,
     pub(crate) ends: ProcessEnds,

@@ -19,7 +19,7 @@ use ses_io::{Media, Sink};
 
 /// The two workers in one edition.
 #[derive(Drop)]
-pub(crate) struct Core<M, W> {
+pub(crate) struct Core<M: Media, W> {
     pub(crate) edition: Edition,
     pub(crate) butler: Butler<M>,
     pub(crate) process: Process<W>,

@@ -20,7 +20,7 @@ use session_model::EditList;
 
 /// A run whose process has ended and whose butler has nothing left to do.
 #[derive(Drop)]
-pub(crate) struct Closed<M, W> {
+pub(crate) struct Closed<M: Media, W> {
     pub(crate) closing: Closing<M>,
     pub(crate) master: W,
     pub(crate) journal: Journal,

@@ -13,7 +13,7 @@ use ses_io::{Media, Sink};
 
 /// The two workers between two cycles, and what failed so far.
 #[derive(Drop)]
-pub(crate) struct Run<M, W> {
+pub(crate) struct Run<M: Media, W> {
     pub(crate) core: Core<M, W>,
     pub(crate) faults: Faults,
 }

@@ -17,7 +17,7 @@ use std::alloc::Global;
 
 /// A run before its first cycle, and the lists that it will leave.
 #[derive(Drop)]
-pub(crate) struct Started<M, W> {
+pub(crate) struct Started<M: Media, W> {
     pub(crate) run: Run<M, W>,
     pub(crate) lists: RunLists,
 }
@@ -40,7 +40,7 @@ fn no_faults() -> Faults
 
 // What is made of the memory that a run takes.
 #[derive(Drop)]
-struct Prepared<M, W> {
+struct Prepared<M: Media, W> {
     lists: RunLists,
     workers: Workers<M, W>,
 }

@@ -15,7 +15,7 @@ use std::alloc::Global;
 
 /// The two workers of a run, and what control receives of the process.
 #[derive(Drop)]
-pub(crate) struct Workers<M, W> {
+pub(crate) struct Workers<M: Media, W> {
     pub(crate) process: Process<W>,
     pub(crate) butler: Butler<M>,
     pub(crate) acks: RingOut<Ack>,

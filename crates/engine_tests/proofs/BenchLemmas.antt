@@ -72,7 +72,7 @@ new_sender : (depth room : ℕ) (d : Sender Item) → IsNewIn depth room d → I
 new_sender depth room d new = record { deep = new.depth; wide = new.room; nothing_sent = new.sent; not_closed = new.closed }
 
 pub may_begin : (o : Loaded) (cycles : ℕ) (ends : ButlerEnds) → IsLoaded o → 0 < cycles → cycles ≤ 100000 → length o.edition.session.tracks.items ≡ 3 →
-    AreNewEnds o.edition.session.depth o.edition.session.block ends → MayBegin o.edition.session o.edition o.sources cycles ends
+    AreNewEnds o.edition.session.depth o.edition.session.block ends → MayBegin o.edition.session o.edition o.sources.opened cycles ends
 may_begin o cycles ends loaded some near three new = let s = o.edition.session in let many = new.three in record {
   plain = loaded.plain;
   edition_of = loaded.edition;

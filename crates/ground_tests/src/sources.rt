@@ -1,7 +1,9 @@
 //! Files in memory and in a folder, opened and read; each byte of them is written by hand after RIFF WAVE.
+mod by_sox;
 mod depths;
 mod extensible;
 mod faults;
+mod held;
 mod refused;
 
 use crate::outside::put;
@@ -64,7 +66,7 @@ fn open<M: Media>(
     }
 }
 
-/// Reads frames of a source, where it is there and `out` holds whole frames of it.
+/// Reads frames of a source, where it is there and `out` holds up to 4,096 whole frames of it.
 fn read<M: Media>(
     sources: &mut Sources,
     media: &mut M,
@@ -74,6 +76,9 @@ fn read<M: Media>(
 ) -> Option<Result<(), ReadFault>> {
     let channels = sources.channels(source)?;
     if channels == 0 || !out.len().is_multiple_of(channels as usize) {
+        return None;
+    }
+    if out.len() > 4096 * channels as usize {
         return None;
     }
     Some(sources.frames(media, source, from, out))
@@ -140,6 +145,7 @@ fn are_right(alloc: Global, cases: &[Case]) -> bool {
 #[test]
 fn files_are_heard_or_refused_for_their_first_fault(rt: HostRuntime) {
     assert!(rt; are_right(rt.alloc(), depths::HEARD));
+    assert!(rt; are_right(rt.alloc(), by_sox::BY_SOX));
     assert!(rt; are_right(rt.alloc(), extensible::EXTENSIBLE));
     assert!(rt; are_right(rt.alloc(), refused::REFUSED));
 }

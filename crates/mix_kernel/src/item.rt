@@ -1,5 +1,5 @@
 //! One item of a block, scaled, summed or laid over.
-ghost use Rattle.std.specs.Prelude.{◌≡◌, ◌-◌, ◌^◌, ◌≤◌, ◌+ℤ◌};
+ghost use Rattle.std.specs.Prelude.{◌≡◌, ◌-◌, ◌^◌, ◌≤◌, pos, ◌+ℤ◌};
 ghost use Rattle.sound_model.specs.Numbers as sound;
 ghost use Rattle.sound_model.specs.Numbers.{unity};
 ghost use Rattle.mix_kernel.specs.Bounds.{IsNear};
@@ -16,13 +16,30 @@ pub(crate) fn scaled(s: i64, g: u32) -> i64
     (s * i64::from(g)) >> 16
 }
 
+// A gain as a signed number.
+fn signed(g: u32) -> i32
+    requires { g ≤ 262144 }
+    ensures { result ≡ pos g }
+{
+    g as i32
+}
+
+// A sample scaled by a gain. Both fit 32 bits, which makes the product cheap.
+fn scaled_sample(s: i32, g: u32) -> i64
+    requires { g ≤ 262144 }
+    ensures value { result ≡ sound.scale s g }
+    ensures near { IsNear (2 ^ 33) result }
+{
+    (i64::from(s) * i64::from(signed(g))) >> 16
+}
+
 // A sum with a scaled sample more.
 pub(crate) fn added(sum: i64, s: i32, g: u32) -> i64
     requires near { IsNear (2 ^ 44) sum }
     requires quiet { g ≤ 262144 }
     ensures { result ≡ sum +ℤ sound.scale s g }
 {
-    sum + scaled(i64::from(s), g)
+    sum + scaled_sample(s, g)
 }
 
 // A faded sample over what an opaque layer leaves of the sum below it.

@@ -1,7 +1,7 @@
 //! A layer of faded samples over the sums below it.
-ghost use Rattle.std.specs.Prelude.{◌≡◌, ℕ, ◌+◌, ◌^◌, length, true};
+ghost use Rattle.std.specs.Prelude.{◌≡◌, ◌^◌, length, true};
 ghost use Rattle.mix_kernel.specs.Blocks.{laid_over};
-ghost use Rattle.mix_kernel.specs.Bounds.{AllNear, AllAtMost};
+ghost use Rattle.mix_kernel.specs.Bounds.{AllNear, AllAtMost, GoesOn};
 
 use crate::item::covered;
 use crate::sums::add_scaled;
@@ -14,7 +14,7 @@ pub fn lay_over(sums: &mut [i64], samples: &[i32], fades: &[u32], opaque: bool)
     requires near { AllNear (2 ^ 44) sums.old }
     requires quiet { AllAtMost 65536 fades.now }
     ensures sums { sums.new ≡ laid_over sums.old samples.now fades.now opaque }
-    ensures near { (b : ℕ) → AllNear b sums.old → AllNear (b + 2 ^ 31) sums.new }
+    ensures near { GoesOn (2 ^ 31) sums.old sums.new }
 {
     if opaque {
         cover(sums, samples, fades);
@@ -29,7 +29,7 @@ fn cover(sums: &mut [i64], samples: &[i32], fades: &[u32])
     requires near { AllNear (2 ^ 44) sums.old }
     requires quiet { AllAtMost 65536 fades.now }
     ensures sums { sums.new ≡ laid_over sums.old samples.now fades.now true }
-    ensures near { (b : ℕ) → AllNear b sums.old → AllNear (b + 2 ^ 31) sums.new }
+    ensures near { GoesOn (2 ^ 31) sums.old sums.new }
 {
     for (i, s) in samples.iter().enumerate() {
         sums[i] = covered(sums[i], *s, fades[i]);

@@ -1,7 +1,7 @@
 //! Sums that a block of samples joins, each scaled by its own gain or all by one.
-ghost use Rattle.std.specs.Prelude.{◌≡◌, ℕ, ◌+◌, ◌*◌, ◌^◌, length};
+ghost use Rattle.std.specs.Prelude.{◌≡◌, ℕ, ◌*◌, ◌^◌, length};
 ghost use Rattle.mix_kernel.specs.Blocks.{scaled, scaled_evenly, summed};
-ghost use Rattle.mix_kernel.specs.Bounds.{AllNear, AllAtMost};
+ghost use Rattle.mix_kernel.specs.Bounds.{AllNear, AllAtMost, GoesOn};
 
 use crate::item::added;
 use ses_units::Gain;
@@ -14,7 +14,7 @@ pub fn add_scaled(sums: &mut [i64], samples: &[i32], gains: &[u32])
     requires near { AllNear (2 ^ 44) sums.old }
     requires quiet { AllAtMost 262144 gains.now }
     ensures sums { sums.new ≡ summed sums.old (scaled samples.now gains.now) }
-    ensures near { (b m : ℕ) → AllNear b sums.old → AllAtMost m gains.now → AllNear (b + m * 2 ^ 15) sums.new }
+    ensures near { (m : ℕ) → AllAtMost m gains.now → GoesOn (m * 2 ^ 15) sums.old sums.new }
 {
     for (i, s) in samples.iter().enumerate() {
         sums[i] = added(sums[i], *s, gains[i]);
@@ -27,7 +27,7 @@ pub fn add_even(sums: &mut [i64], samples: &[i32], gain: Gain)
     requires samples { length samples.now ≡ length sums.old }
     requires near { AllNear (2 ^ 44) sums.old }
     ensures sums { sums.new ≡ summed sums.old (scaled_evenly samples.now gain) }
-    ensures near { (b : ℕ) → AllNear b sums.old → AllNear (b + gain * 2 ^ 15) sums.new }
+    ensures near { GoesOn (gain * 2 ^ 15) sums.old sums.new }
 {
     let gain = gain.value();
     for (i, s) in samples.iter().enumerate() {

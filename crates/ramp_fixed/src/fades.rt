@@ -4,7 +4,7 @@ ghost use Rattle.std.specs.List.{range_with_len};
 ghost use Rattle.sound_model.specs.Numbers.{unity};
 ghost use Rattle.sound_model.specs.Regions.{shaped};
 ghost use Rattle.ses_units.specs.Shape.{shape_of};
-ghost use Rattle.ramp_fixed.specs.Fades.{faded_region, fades};
+ghost use Rattle.ramp_fixed.specs.Fades.{ramp, IsUnfaded};
 
 use crate::line::Line;
 use ses_units::Shape;
@@ -36,7 +36,7 @@ pub fn fade_block(
     requires bound { long ≤ 2 ^ 40 }
     requires fit { fade_in + fade_out ≤ long }
     requires within { first + length out.old ≤ long }
-    ensures fades { out.new ≡ fades (faded_region long fade_in fade_out (shape_of shape_in) (shape_of shape_out)) first (length out.old) }
+    ensures are { out.new ≡ ramp long fade_in fade_out shape_in shape_out first (length out.old) }
     ensures quiet { All (λ f. f ≤ unity) out.new }
 {
     let count = out.len() as u64;
@@ -58,7 +58,7 @@ pub fn is_unfaded(long: u64, fade_in: u64, fade_out: u64, first: u64, count: u64
     requires bound { long ≤ 2 ^ 40 }
     requires fit { fade_in + fade_out ≤ long }
     requires within { first + count ≤ long }
-    ensures { IsTrue result ↔ ((count ≡ 0) ⊎ ((fade_in ≤ first) × (first + count + fade_out ≤ long))) }
+    ensures { IsTrue result ↔ IsUnfaded long fade_in fade_out first count }
 {
     count == 0 || (fade_in <= first && first + count + fade_out <= long)
 }

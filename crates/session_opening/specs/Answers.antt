@@ -72,11 +72,13 @@ pub record IsLoaded (o : Loaded) : Type 0 where
   -- in the form that is built
   pub plain : is_plain o.edition.session ≡ true
   -- each source has the name, the rate and the channels that were declared
-  pub listed : IsListed o.edition.session.rate o.edition.session.sources.items o.sources
+  pub listed : IsListed o.edition.session.rate o.edition.session.sources.items o.sources.opened
+  -- no line of them is held yet
+  pub held : o.sources.held ≡ []
 
 -- each source has the head of its file
 abbrev pub HasHeads : Files → Loaded → Type 0
-HasHeads files o = IsOpened files o.edition.session.rate o.edition.session.sources.items o.sources
+HasHeads files o = IsOpened files o.edition.session.rate o.edition.session.sources.items o.sources.opened
 
 -- ---- refusals
 

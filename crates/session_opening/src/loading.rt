@@ -1,5 +1,5 @@
 //! What an export plays: edition 0 of its session, and its sources, or the first thing that is wrong.
-ghost use Rattle.std.specs.Prelude.{◌≡◌, true, IfOk};
+ghost use Rattle.std.specs.Prelude.{◌≡◌, true, [], IfOk};
 ghost use Rattle.session_model.specs.Valid.{IsValid};
 ghost use Rattle.engine_model.specs.PlainSession.{is_plain};
 ghost use Rattle.audio_source.specs.Opened.{IsListed, IsOpened};
@@ -104,9 +104,12 @@ fn sources_in<M: Media>(
     ensures told { M.outside.tells → Gives (λ o. tt)
         (spec.sources_in (M.outside.files media.old) session.now.rate
         session.now.sources.items) result }
-    ensures listed { IfOk result (IsListed session.now.rate session.now.sources.items) }
+    ensures listed { IfOk result
+        (λ s. IsListed session.now.rate session.now.sources.items s.opened) }
+    ensures held { IfOk result (λ s. s.held ≡ []) }
     ensures heads { M.outside.tells → IfOk result
-        (IsOpened (M.outside.files media.old) session.now.rate session.now.sources.items) }
+        (λ s. IsOpened (M.outside.files media.old) session.now.rate
+        session.now.sources.items s.opened) }
     ensures only_reads { OnlyReads M.outside media.old media.new }
     ensures cause { Caused M.outside media.old media.new result }
 {

@@ -137,11 +137,11 @@ module _ {M I C W O : Type 0} (outside : MediaOutside M) (sink : SinkOutside W) 
   -- a run that plays
   module _ (e : Export) (x : Loaded) (old : World M I C W O) (plainly : is_plain x.edition.session ≡ true) (heads : outside.tells → HasHeads (outside.files old.media) x) (f : Finished M I C W O)
       (leaves : IsPlayedOut x.edition.session e.from e.cycles f.edits.items (journal_of f) f.rings.items f.faults)
-      (genuine : outside.tells → AllGenuine (source_sound (outside.files old.media) x.sources) x.edition.session f.edits.items f.rings.items)
+      (genuine : outside.tells → AllGenuine (source_sound (outside.files old.media) x.sources.opened) x.edition.session f.edits.items f.rings.items)
       (master : outside.tells → sink.tells → f.faults.master ≡ false → sink.held f.world.master ≡ sink.held old.master ++ master_file x.edition.session f.edits.items
-      (samples_of (source_sound (outside.files old.media) x.sources) x.edition.session f.edits.items) e.cycles (journal_of f))
+      (samples_of (source_sound (outside.files old.media) x.sources.opened) x.edition.session f.edits.items) e.cycles (journal_of f))
       (front : outside.tells → sink.tells → f.faults.master ≡ true → IsCutOff (sink.held old.master) (sink.held f.world.master) x.edition.session f.edits.items
-      (samples_of (source_sound (outside.files old.media) x.sources) x.edition.session f.edits.items) e.cycles (journal_of f))
+      (samples_of (source_sound (outside.files old.media) x.sources.opened) x.edition.session f.edits.items) e.cycles (journal_of f))
       (whole : Whole f.acks) (counted : IsCounted (outside.read_faults old.media) (outside.read_faults f.world.media) f.faults.read) (noted : IsCounted (sink.faults old.master) (sink.faults f.world.master) f.faults.master)
       (only : OnlyReads outside old.media f.world.media) (rest : KeepsTheRest old f.world)
       (new : Outcome M I C W O) (status_is : new.status ≡ status_at_end f.faults) (world_is : new.world ≡ f.world) (journal_is : new.journal ≡ Some f.journal) (rings_are : new.rings ≡ f.rings) (acks_are : new.acks ≡ Some f.acks) where
@@ -173,7 +173,7 @@ module _ {M I C W O : Type 0} (outside : MediaOutside M) (sink : SinkOutside W) 
     }
 
     export : outside.tells → IsExport outside sink old new o (journal_of f)
-    export t = let first = sink.held old.master in let now = sink.held new.world.master in let sounds = sounds_are (outside.files old.media) x.edition.session x.sources (heads t) in record {
+    export t = let first = sink.held old.master in let now = sink.held new.world.master in let sounds = sounds_are (outside.files old.media) x.edition.session x.sources.opened (heads t) in record {
       run = run;
       genuine = subst (λ l. AllGenuine (sounds_in (outside.files old.media) x.edition.session) x.edition.session (edits_of o) l.items) (sym rings_are)
           (subst (λ es. AllGenuine (sounds_in (outside.files old.media) x.edition.session) x.edition.session es f.rings.items) leaves.edits_are
@@ -183,7 +183,7 @@ module _ {M I C W O : Type 0} (outside : MediaOutside M) (sink : SinkOutside W) 
           ∙ ap (λ (es : List Edit). first ++ master_file x.edition.session es (samples_of (sounds_in (outside.files old.media) x.edition.session) x.edition.session es) e.cycles (journal_of f)) leaves.edits_are;
       cut_off = λ u rose. subst (λ es. IsCutOff first now x.edition.session es (samples_of (sounds_in (outside.files old.media) x.edition.session) x.edition.session es) e.cycles (journal_of f))
           leaves.edits_are (subst (λ (h : Sounds). IsCutOff first now x.edition.session f.edits.items (samples_of h x.edition.session f.edits.items) e.cycles (journal_of f)) sounds
-          (subst (λ (w : World M I C W O). IsCutOff first (sink.held w.master) x.edition.session f.edits.items (samples_of (source_sound (outside.files old.media) x.sources) x.edition.session f.edits.items) e.cycles (journal_of f)) (sym world_is)
+          (subst (λ (w : World M I C W O). IsCutOff first (sink.held w.master) x.edition.session f.edits.items (samples_of (source_sound (outside.files old.media) x.sources.opened) x.edition.session f.edits.items) e.cycles (journal_of f)) (sym world_is)
           (front t u (status.some_rise (sink.faults old.master) (sink.faults f.world.master) f.faults.master noted (omega (arith, rose, master_is))))));
     }
 

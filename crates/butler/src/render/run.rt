@@ -5,6 +5,7 @@ ghost use Rattle.sound_model.specs.Layers.{track_sample};
 ghost use Rattle.session_model.specs.Frames.{interleaved};
 ghost use Rattle.session_model.specs.Region.{region_of};
 ghost use Rattle.audio_source.specs.Told.{source_sound};
+ghost use Rattle.audio_source.specs.Lines.{HoldsAsRead};
 ghost use Rattle.butler.specs.Render.{IsHeardPlainly, IsSilentOutside};
 
 use audio_source::{ReadFault, Sources};
@@ -57,12 +58,16 @@ pub(crate) fn run<M: Media>(
     place: u64,
     out: &mut [i32],
 ) -> Result<(), ReadFault>
-    requires heard { IsHeardPlainly sources.old (region_of region.now) }
-    ensures told { M.outside.tells → OnOk result (out.new ≡ interleaved
-        (λ x c. track_sample (source_sound (M.outside.files media.old) sources.old)
+    requires heard { IsHeardPlainly sources.old.opened (region_of region.now) }
+    requires few { length out.old ≤ 4096 }
+    ensures told { M.outside.tells → HoldsAsRead (M.outside.files media.old) sources.old
+        → OnOk result (out.new ≡ interleaved
+        (λ x c. track_sample (source_sound (M.outside.files media.old) sources.old.opened)
         (region_of region.now ∷ []) c x)
         1 place (length out.old)) }
-    ensures sources { sources.new ≡ sources.old }
+    ensures holds { M.outside.tells → HoldsAsRead (M.outside.files media.old) sources.old
+        → HoldsAsRead (M.outside.files media.old) sources.new }
+    ensures opened { sources.new.opened ≡ sources.old.opened }
     ensures only_reads { OnlyReads M.outside media.old media.new }
     ensures cause { ReadCause M.outside media.old media.new result }
 {

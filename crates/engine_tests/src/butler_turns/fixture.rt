@@ -19,7 +19,7 @@ use std::marker::Model;
 
 /// A butler, and the other ends of its rings. Contracts see the session that was opened and the edits that it entered last.
 #[derive(Drop)]
-pub(crate) struct ButlerFixture<M> {
+pub(crate) struct ButlerFixture<M: Media> {
     butler: Butler<M>,
     edition: Edition,
     // How many of the edition's edits the butler entered.
@@ -29,7 +29,7 @@ pub(crate) struct ButlerFixture<M> {
     acks: RingIn<Ack>,
 }
 
-impl<M> Model for ButlerFixture<M> {
+impl<M: Media> Model for ButlerFixture<M> {
     ghost use Rattle.edition_log.specs.Entered.{Entered};
     ghost use Rattle.engine_tests.specs.Bench.{IsServed, entered_by};
 

@@ -13,7 +13,7 @@ pub(super) const MONO_8: &[u8] = b"\x01\0\x80\xbb\0\0\0\0\0\0\x01\0\x08\0";
 
 const STEREO_8: &[u8] = b"\x02\0\x80\xbb\0\0\0\0\0\0\x02\0\x08\0";
 
-const MONO_16: &[u8] = b"\x01\0\x80\xbb\0\0\0\0\0\0\x02\0\x10\0";
+pub(super) const MONO_16: &[u8] = b"\x01\0\x80\xbb\0\0\0\0\0\0\x02\0\x10\0";
 
 const STEREO_16: &[u8] = b"\x02\0\x80\xbb\0\0\0\0\0\0\x04\0\x10\0";
 

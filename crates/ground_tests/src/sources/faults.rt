@@ -97,23 +97,40 @@ fn is_round(out: &[i32]) -> bool {
     true
 }
 
-// Whether the first and the third of three reads of 4,096 frames are made, the second one fails, and 5,001 are read.
+// The first source's frames from the first on, through the bound of the trait.
+fn all_by<F: Frames>(frames: &mut F, out: &mut [i32; 5001]) -> Result<(), Failed>
+    requires source { 0 < length (F.outside.channels frames.old) }
+    requires whole { 5001 % slice_index (F.outside.channels frames.old) 0 ≡ 0 }
+{
+    frames.frames(0, 0, out)
+}
+
+// Whether they are heard in one, of one channel.
+fn is_long_in_view(sources: &mut Sources, media: &mut MemMedia) -> bool {
+    if sources.channels(0) != Some(1) {
+        return false;
+    }
+    let mut out = [7; 5001];
+    all_by(&mut SourceView { sources, media }, &mut out) == Ok(()) && is_round(&out)
+}
+
+// Whether a read of the first line is made and then none more, the first of the second one fails, and all is heard.
 fn are_read(alloc: Global, media: &mut MemMedia) -> bool {
     let mut out = [7; 4096];
-    let mut more = [7; 5001];
     match open(alloc, media, &[("a.wav", 1)], 48_000) {
         Ok(mut sources) => {
             read(&mut sources, media, 0, 0, &mut out) == Some(Ok(()))
-                && read(&mut sources, media, 0, 0, &mut out) == Some(Err(ReadFault))
                 && read(&mut sources, media, 0, 0, &mut out) == Some(Ok(()))
-                && read(&mut sources, media, 0, 0, &mut more) == Some(Ok(()))
-                && is_round(&more)
+                && read(&mut sources, media, 0, 4096, &mut out) == Some(Err(ReadFault))
+                && read(&mut sources, media, 0, 4096, &mut out) == Some(Ok(()))
+                && is_long_in_view(&mut sources, media)
         }
         Err(_) => false,
     }
 }
 
-// Opening takes six calls: the size, and five reads of the head. So the seventh and the eighth read frames.
+// Opening takes six calls: the size, and five reads of the head. So the seventh reads the first line, and the eighth
+// the second.
 fn eighth_call_fails(alloc: Global) -> bool {
     let sound = rounds();
     let mut media = MemMedia::new(alloc);

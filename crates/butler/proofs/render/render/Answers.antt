@@ -7,5 +7,5 @@ use Rattle.butler.proofs.SoundLemmas as laws
 use Rattle.butler.proofs.render.render.Goals as goal
 
 pub returns-in-None-clause-told : goal.returns-in-None-clause-told
-returns-in-None-clause-told g c = λ t. c.silence.ensures ∙ laws.all_without (source_sound (g.M.Media.outside.files c.args.media.now) c.args.sources.now) (track_regions c.args.session.now c.args.track)
+returns-in-None-clause-told g c = λ t h. c.silence.ensures ∙ laws.all_without (source_sound (g.M.Media.outside.files c.args.media.now) c.args.sources.now.opened) (track_regions c.args.session.now c.args.track)
     (place_of (transport_of c.args.transport.now)) c.args.first (length c.args.out.now) c.in-None.ensures.regions

@@ -6,14 +6,16 @@ use Rattle.session_model.specs.Region.{region_of}
 use Rattle.engine_model.specs.Transport.{place_of}
 use Rattle.locate_loop.specs.Transport.{transport_of}
 use Rattle.audio_source.specs.Told.{source_sound}
+use Rattle.audio_source.specs.Lines.{HoldsAsRead}
 use Rattle.butler.proofs.render.runs.Given as goal
 
 abbrev pub invariant-loop-done : goal.invariant-loop-done
 invariant-loop-done g l = record {
   within : l.done ≤ length l.out;
-  told : g.M.Media.outside.tells → take l.done l.out ≡ interleaved
-      (λ n c. track_sample (source_sound (g.M.Media.outside.files l.fn.media) l.fn.sources) (region_of l.region ∷ []) c (place_of (transport_of l.transport) n)) 1 l.first l.done;
-  sources : l.sources ≡ l.fn.sources;
+  told : g.M.Media.outside.tells → HoldsAsRead (g.M.Media.outside.files l.fn.media) l.fn.sources → take l.done l.out ≡ interleaved
+      (λ n c. track_sample (source_sound (g.M.Media.outside.files l.fn.media) l.fn.sources.opened) (region_of l.region ∷ []) c (place_of (transport_of l.transport) n)) 1 l.first l.done;
+  holds : g.M.Media.outside.tells → HoldsAsRead (g.M.Media.outside.files l.fn.media) l.fn.sources → HoldsAsRead (g.M.Media.outside.files l.fn.media) l.sources;
+  opened : l.sources.opened ≡ l.fn.sources.opened;
   files : g.M.Media.outside.files l.media ≡ g.M.Media.outside.files l.fn.media;
   reads : g.M.Media.outside.read_faults l.media ≡ g.M.Media.outside.read_faults l.fn.media;
   writes : g.M.Media.outside.write_faults l.media ≡ g.M.Media.outside.write_faults l.fn.media;

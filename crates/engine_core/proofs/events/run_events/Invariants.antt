@@ -7,7 +7,7 @@ abbrev pub ghost-play_script : goal.ghost-play_script
 ghost-play_script g a = record {
   session = a.edition.session;
   edits = accepted a.edition.session a.cycles (export_commands a.script.from);
-  sounds = source_sound (g.M.Media.outside.files a.media) a.sources;
+  sounds = source_sound (g.M.Media.outside.files a.media) a.sources.opened;
   held = g.W.Sink.outside.held a.master;
   reads = g.M.Media.outside.read_faults a.media;
   writes = g.W.Sink.outside.faults a.master;

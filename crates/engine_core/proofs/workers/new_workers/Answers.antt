@@ -8,7 +8,7 @@ new-requires-clause-ends g c = begin.are_new c.args.edition.now.session c.args.e
 
 pub new-requires-2 : goal.new-requires-2
 new-requires-2 g c = let e = c.args.edition.now in let may = c.requires.1.1.0 in λ κs m.
-    (m, begin.may_begin g.s c.args.ends (begin.new_for g.s e c.args.ends may.edition_of c.requires.1.1.1) e c.args.sources c.args.cycles may)
+    (m, (begin.may_begin g.s c.args.ends (begin.new_for g.s e c.args.ends may.edition_of c.requires.1.1.1) e c.args.sources c.args.cycles may, may.held))
 
 pub returns-in-Ok-new-clause-workers : goal.returns-in-Ok-new-clause-workers
 returns-in-Ok-new-clause-workers g c = begin.has_workers g.s c.args.edition.now c.args.sources c.args.cycles c.args.media c.args.master c.args.ends c.requires.1.1.1

@@ -9,4 +9,4 @@ returns-else-opaque-clause-sums c =
     ∙ ap (laid_over c.args.sums.now c.args.samples.now c.args.fades.now) (sym c.if-opaque.false)
 
 pub returns-else-opaque-clause-near : goal.returns-else-opaque-clause-near
-returns-else-opaque-clause-near c = λ b near. c.add_scaled.ensures.near b 65536 near c.requires.quiet
+returns-else-opaque-clause-near c = λ b near. c.add_scaled.ensures.near 65536 c.requires.quiet b near

@@ -31,6 +31,6 @@ returns-clause-sums c =
     (λ k h. item-summed c.args.sums.now c.args.samples.now c.args.gains.now c.requires.samples c.requires.gains k (omega arith))
 
 pub returns-clause-near : goal.returns-clause-near
-returns-clause-near c = λ b m near quiet.
+returns-clause-near c = λ m quiet b near.
     subst (AllNear (b + m * 32768)) (sym (returns-clause-sums c))
     (near-summed c.args.sums.now c.args.samples.now c.args.gains.now c.requires.samples c.requires.gains m (m * 32768) (omega arith) quiet (λ k h. c.loop-i.invariant.read k (omega arith)) b near)

@@ -7,8 +7,8 @@ use Rattle.ramp_fixed.proofs.Parts.{same_on_range, replicate_is_range, three_par
 use Rattle.ramp_fixed.proofs.FadeValues.{fades_within, fade_rises, fade_falls, fade_full}
 use Rattle.ramp_fixed.proofs.fades.fade_block.Goals as goal
 
-pub returns-clause-fades : goal.returns-clause-fades
-returns-clause-fades c =
+pub returns-clause-are : goal.returns-clause-are
+returns-clause-are c =
     let r : Region = faded_region c.args.long c.args.fade_in c.args.fade_out (shape_of c.args.shape_in) (shape_of c.args.shape_out) in
     let n : ℕ = length c.args.out.now in
     let a : ℕ = c.clamp.result - c.args.first in
@@ -30,4 +30,4 @@ returns-clause-fades c =
 pub returns-clause-quiet : goal.returns-clause-quiet
 returns-clause-quiet c =
     let r : Region = faded_region c.args.long c.args.fade_in c.args.fade_out (shape_of c.args.shape_in) (shape_of c.args.shape_out) in
-    All-same (λ f. f ≤ 65536) _ _ (returns-clause-fades c) (fades_within r c.args.first (length c.args.out.now))
+    All-same (λ f. f ≤ 65536) _ _ (returns-clause-are c) (fades_within r c.args.first (length c.args.out.now))
