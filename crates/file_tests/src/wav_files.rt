@@ -2,6 +2,7 @@
 
 mod extensible;
 mod heads;
+mod lengths;
 mod refusals;
 mod samples;
 

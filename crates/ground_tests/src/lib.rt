@@ -6,6 +6,8 @@ mod boxes;
 #[cfg(test)]
 mod outside;
 #[cfg(test)]
+mod playlists;
+#[cfg(test)]
 mod rings;
 #[cfg(test)]
 mod sources;

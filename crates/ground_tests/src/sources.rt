@@ -1,4 +1,5 @@
 //! Files in memory and in a folder, opened and read; each byte of them is written by hand after RIFF WAVE.
+mod by_ffmpeg;
 mod by_sox;
 mod depths;
 mod extensible;
@@ -145,6 +146,7 @@ fn are_right(alloc: Global, cases: &[Case]) -> bool {
 #[test]
 fn files_are_heard_or_refused_for_their_first_fault(rt: HostRuntime) {
     assert!(rt; are_right(rt.alloc(), depths::HEARD));
+    assert!(rt; are_right(rt.alloc(), by_ffmpeg::BY_FFMPEG));
     assert!(rt; are_right(rt.alloc(), by_sox::BY_SOX));
     assert!(rt; are_right(rt.alloc(), extensible::EXTENSIBLE));
     assert!(rt; are_right(rt.alloc(), refused::REFUSED));

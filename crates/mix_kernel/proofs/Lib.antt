@@ -1,3 +1,5 @@
 -- Lemmas of the kernels.
 pub mod Items
 pub mod Formulas
+pub mod SideLemmas
+pub mod Parts

@@ -1,5 +1,5 @@
 -- The plain formulas of the kernels: lists that go on item by item, as sums, samples and gains of one block do.
-use Rattle.std.specs.Prelude.{ℕ, ◌-◌, ℤ, ◌+ℤ◌, Bool, if◌then◌else◌, List, map}
+use Rattle.std.specs.Prelude.{ℕ, ◌-◌, ℤ, ◌+ℤ◌, Bool, if◌then◌else◌, List, [], ◌∷◌, map}
 use Rattle.std.specs.Simd.Lanes.{zip2}
 use Rattle.sound_model.specs.Numbers.{unity, scale, clip, file_sample}
 
@@ -13,6 +13,11 @@ scaled_evenly samples gain = map (λ s. scale s gain) samples
 
 abbrev pub summed : List ℤ → List ℤ → List ℤ
 summed sums others = zip2 ◌+ℤ◌ sums others
+
+-- the samples of one channel as two, frame by frame: each scaled by a gain, and then for its side
+abbrev pub sided : ℕ → ℕ → ℕ → List ℤ → List ℤ
+sided gain left right [] = []
+sided gain left right (s ∷ ss) = scale (scale s gain) left ∷ scale (scale s gain) right ∷ sided gain left right ss
 
 -- what a layer leaves of the sums below it
 abbrev pub left_below : List ℤ → List ℕ → Bool → List ℤ

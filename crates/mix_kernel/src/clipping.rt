@@ -1,9 +1,10 @@
 //! Sums as samples of 32 bits, a block scaled by one gain, and samples as a file holds them.
 ghost use Rattle.std.specs.Prelude.{◌≡◌, length};
 ghost use Rattle.ses_units.specs.Bits.{bits_of};
-ghost use Rattle.mix_kernel.specs.Blocks.{scaled_evenly, clipped, filed};
+ghost use Rattle.mix_kernel.specs.Blocks.{scaled, scaled_evenly, clipped, filed};
+ghost use Rattle.mix_kernel.specs.Bounds.{AllAtMost};
 
-use crate::item::scaled;
+use crate::item::{scaled, scaled_sample};
 use ses_units::{Bits, Gain, clip, file_sample};
 
 /// Writes sums as samples, each the nearest number that 32 bits hold.
@@ -24,6 +25,18 @@ pub fn scale_block(samples: &[i32], gain: Gain, out: &mut [i32])
     let gain = gain.value();
     for (i, s) in samples.iter().enumerate() {
         out[i] = clip(scaled(i64::from(*s), gain));
+    }
+}
+
+/// Writes samples scaled each by its own gain, rounded down and clipped.
+pub fn scale_each(samples: &[i32], gains: &[u32], out: &mut [i32])
+    requires samples { length samples.now ≡ length out.old }
+    requires gains { length gains.now ≡ length out.old }
+    requires quiet { AllAtMost 262144 gains.now }
+    ensures { out.new ≡ clipped (scaled samples.now gains.now) }
+{
+    for (i, s) in samples.iter().enumerate() {
+        out[i] = clip(scaled_sample(*s, gains[i]));
     }
 }
 

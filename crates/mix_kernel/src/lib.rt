@@ -5,8 +5,10 @@
 mod clipping;
 mod item;
 mod layers;
+mod sides;
 mod sums;
 
-pub use clipping::{clip_all, clip_file, scale_block};
+pub use clipping::{clip_all, clip_file, scale_block, scale_each};
 pub use layers::lay_over;
+pub use sides::add_sides;
 pub use sums::{add_even, add_scaled};

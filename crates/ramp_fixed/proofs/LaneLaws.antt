@@ -55,10 +55,10 @@ first_below o (q ∷ front) back p h =
     let first : o.at < q.at = rises_first o q (front ++ p ∷ back) h in
     let further : q.at < p.at = first_below q front back p (rises_rest o (q ∷ front ++ p ∷ back) h) in omega arith
 
-before : {A : Type 0} (x y : ℕ) (u v : A) → x < y → cond (nat_lt x y) u v ≡ u
+pub before : {A : Type 0} (x y : ℕ) (u v : A) → x < y → cond (nat_lt x y) u v ≡ u
 before x y u v h = grind (arith, nat_tests)
 
-not_before : {A : Type 0} (x y : ℕ) (u v : A) → y ≤ x → cond (nat_lt x y) u v ≡ v
+pub not_before : {A : Type 0} (x y : ℕ) (u v : A) → y ≤ x → cond (nat_lt x y) u v ≡ v
 not_before x y u v h = grind (arith, nat_tests)
 
 line-reaches : (o : Point) (front back : List Point) (p : Point) (x : ℕ) → rises (o ∷ front ++ p ∷ back) ≡ true → p.at ≤ x →
@@ -70,7 +70,7 @@ line-reaches o (q ∷ front) back p x h on =
     not_before x q.at (between o q x) (line_from q (front ++ p ∷ back) x) (omega arith) ∙ line-reaches q front back p x rest on
 
 -- from a point on, what stands before it says nothing
-lane-reaches : (fader : ℕ) (front back : List Point) (p : Point) (x : ℕ) → rises (front ++ p ∷ back) ≡ true → p.at ≤ x →
+pub lane-reaches : (fader : ℕ) (front back : List Point) (p : Point) (x : ℕ) → rises (front ++ p ∷ back) ≡ true → p.at ≤ x →
     lane_value fader (front ++ p ∷ back) x ≡ line_from p back x
 lane-reaches fader [] back p x h on = not_before x p.at p.gain (line_from p back x) on
 lane-reaches fader (o ∷ front) back p x h on =

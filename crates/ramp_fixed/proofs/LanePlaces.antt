@@ -1,6 +1,5 @@
 -- The pieces of a lane by its points as code holds them, and a walk that stands in one.
-use Rattle.std.proofs.Common.{All, inl, inr, ◌⊎◌, ◌≡◌, ℕ, ◌+◌, ◌-◌, ◌*◌, ◌/◌, ◌<◌, ◌≤◌, List, [], ◌∷◌, length, get_or, refl, sym, ap, subst, ◌∙◌, arith}
-use Rattle.std.proofs.lemmas.Bool.{cases_lt}
+use Rattle.std.proofs.Common.{◌≡◌, ℕ, ◌+◌, ◌-◌, ◌*◌, ◌/◌, ◌<◌, ◌≤◌, List, [], ◌∷◌, length, get_or, refl, sym, ap, subst, ◌∙◌, arith}
 use Rattle.std.proofs.lemmas.List.{get_or-map, length-map}
 use Rattle.std.proofs.lemmas.List.Elements.{All-get_or}
 use Rattle.sound_model.specs.Lanes as sound
@@ -60,34 +59,3 @@ walk_gain fader points walk place stands =
 pub walk_quiet : (fader : ℕ) (points : List sound.Point) (walk : Walk) (place : ℕ) → IsLane points → fader ≤ 262144 → Stands fader points walk place → gain_gone walk.piece walk.line.value ≤ 262144
 walk_quiet fader points walk place lane f stands =
     subst (λ g. g ≤ 262144) (walk_gain fader points walk place stands) (lane_quiet 262144 fader points place f lane.quiet (rise_by_pairs points lane.rising))
-
--- ---- where all points stand at a place or before it
-
-pub all_through : (points : List Point) (p : Point) (j first : ℕ) → IsLane (points_of points) → j + 1 ≡ length points → p ≡ get_or points j p → p.at ≤ first → All (λ q. q.at ≤ first) (points_of points)
-all_through points p j first lane long e h = λ k d within. go k d within (cases_lt k j)
-  where
-    last : (d : sound.Point) → get_or (points_of points) j d ≡ point_of p
-    last d = get_or-map point_of points j p d (omega arith) ∙ ap point_of (sym e)
-
-    go : (k : ℕ) (d : sound.Point) → k < length (points_of points) → (k < j) ⊎ (j ≤ k) → (get_or (points_of points) k d).at ≤ first
-    go k d within (inl less) =
-        let there : j < length (points_of points) = omega (arith, length-map points point_of) in
-        let rises = lane.rising k j d less there in
-        let bound : (get_or (points_of points) j d).at ≤ first = subst (λ (q : sound.Point). q.at ≤ first) (sym (last d)) h in
-        omega arith
-    go k d within (inr more) =
-        let same : k ≡ j = omega (arith, length-map points point_of) in
-        rw same (subst (λ (q : sound.Point). q.at ≤ first) (sym (last d)) h)
-
-pub not_even : (points : List Point) (p q : Point) (j first last : ℕ) → j + 1 ≡ length points → p ≡ get_or points 0 p → q ≡ get_or points j q → p.at ≤ last → first < q.at
-    → All (λ r. r.at ≤ first) (points_of points) ⊎ All (λ r. last < r.at) (points_of points) → ⊥
-not_even points p q j first last long e f h m (inl all) =
-    let seen = all j (point_of q) (omega (arith, length-map points point_of)) in
-    let read = point_read points j q q (omega arith) f in
-    let bound : q.at ≤ first = subst (λ (r : sound.Point). r.at ≤ first) read seen in
-    absurd (omega arith)
-not_even points p q j first last long e f h m (inr all) =
-    let seen = all 0 (point_of p) (omega (arith, length-map points point_of)) in
-    let read = point_read points 0 p p (omega arith) e in
-    let bound : last < p.at = subst (λ (r : sound.Point). last < r.at) read seen in
-    absurd (omega arith)

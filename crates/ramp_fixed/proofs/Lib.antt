@@ -5,3 +5,4 @@ pub mod Parts
 pub mod FadeValues
 pub mod LanePieces
 pub mod LanePlaces
+pub mod EvenLanes

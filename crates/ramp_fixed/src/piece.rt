@@ -21,7 +21,7 @@ pub(crate) struct Piece {
 }
 
 // How many points stand at a place or before it.
-fn count_through(points: &[Point], place: u64) -> usize
+pub(crate) fn count_through(points: &[Point], place: u64) -> usize
     requires lane { IsLane (points_of points.now) }
     requires near { place < 2 ^ 41 }
     ensures bound { result ≤ length points.now }

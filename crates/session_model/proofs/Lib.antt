@@ -4,6 +4,8 @@ mod TestLemmas
 pub mod ValidityLaws
 mod PlaceLemmas
 mod WriteLemmas
+mod SpanLemmas
+mod StartLemmas
 pub mod PlaylistLemmas
 mod FrameLemmas
 mod FileNameVectors

@@ -1,6 +1,7 @@
 -- What a session is and when it is valid, and how it is seen by the definitions of the sound.
 pub mod Region
 pub mod Playlist
+pub mod Starts
 pub mod FileName
 pub mod Frames
 pub mod MemFrames

@@ -15,6 +15,7 @@ mod refusal;
 mod region;
 mod route;
 mod session;
+mod starts;
 mod track;
 mod try_clone;
 

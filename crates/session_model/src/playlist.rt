@@ -4,19 +4,23 @@ ghost use Rattle.std.specs.Bool.{IsFalse};
 ghost use Rattle.std.specs.Option.{option_map};
 ghost use Rattle.sound_model.specs.Layers.{with_region};
 ghost use Rattle.session_model.specs.Region.{region_of, regions_of, IsRegion};
-ghost use Rattle.session_model.specs.Playlist.{IsPlaylist, has_id, has_region, without_region};
+ghost use Rattle.session_model.specs.Playlist.{IsPlaylist, has_id, has_region, without_region, places_meeting};
 
 use crate::places::{any_has, index_of, place_of, put_at_end, put_last_at};
 use crate::region::Region;
+use crate::starts::Starts;
+use arrayvec::ArrayVec;
 use ses_io::{FixedList, NoMemory, TryClone};
 use ses_units::limits::REGIONS;
 use std::alloc::Global;
 use std::marker::Model;
 
-/// The regions of a track, the lowest first (own). Contracts see their list.
+/// The regions of a track, the lowest first (own). Contracts see their list. Beside it an index keeps
+/// them by their starts.
 #[derive(Drop)]
 pub struct Playlist {
     list: FixedList<Region>,
+    starts: Starts,
 }
 
 impl Model for Playlist {
@@ -24,12 +28,14 @@ impl Model for Playlist {
     ghost use Rattle.sound_model.specs.Regions as sound;
     ghost use Rattle.session_model.specs.Region.{regions_of};
     ghost use Rattle.session_model.specs.Playlist.{IsPlaylist};
+    ghost use Rattle.session_model.specs.Starts.{IsIndexOf};
 
     ghost Value = { List sound.Region };
 
     ghost view = { λ p. regions_of p.list.items };
 
-    ghost invariant = { λ p. IsPlaylist (regions_of p.list.items) × (256 ≤ p.list.room) };
+    ghost invariant = { λ p. IsPlaylist (regions_of p.list.items) × (256 ≤ p.list.room)
+        × IsIndexOf (regions_of p.list.items) p.starts };
 }
 
 impl Playlist {
@@ -39,6 +45,7 @@ impl Playlist {
     {
         Ok(Playlist {
             list: FixedList::new(alloc, REGIONS)?,
+            starts: Starts::new(alloc)?,
         })
     }
 
@@ -52,6 +59,7 @@ impl Playlist {
         let place = place_of(self.list.as_slice(), &r);
         self.list.push(r);
         put_last_at(self.list.as_mut_slice(), place);
+        self.starts.renew(self.list.as_slice());
     }
 
     /// Takes the region of that id out, None exactly where no region has it. It takes no memory.
@@ -63,7 +71,9 @@ impl Playlist {
     {
         let place = index_of(self.list.as_slice(), id)?;
         put_at_end(self.list.as_mut_slice(), place);
-        Some(self.list.pop())
+        let r = self.list.pop();
+        self.starts.renew(self.list.as_slice());
+        Some(r)
     }
 
     /// The regions, the lowest first.
@@ -97,6 +107,21 @@ impl Playlist {
         self.len() == REGIONS as usize
     }
 
+    /// Writes the places, the lowest first, of the regions that are heard somewhere in `frames` frames from position `from` on.
+    /// It takes no memory.
+    pub fn covering(&self, from: u64, frames: u32, out: &mut ArrayVec<u16, 256>)
+        requires some { 1 ≤ frames }
+        ensures { out.new.items ≡ places_meeting self.now from frames }
+    {
+        let heard = self.starts.heard(from, frames);
+        out.clear();
+        for place in 0..self.len() {
+            if heard[place] {
+                out.push(place as u16);
+            }
+        }
+    }
+
     /// Whether a region has that id.
     pub fn has(&self, id: u32) -> bool
         ensures { result ≡ has_region self.now id }
@@ -109,6 +134,7 @@ impl TryClone for Playlist {
     fn try_clone(&self, alloc: Global) -> Result<Self, NoMemory> {
         Ok(Playlist {
             list: self.list.try_clone(alloc)?,
+            starts: self.starts.try_clone(alloc)?,
         })
     }
 }

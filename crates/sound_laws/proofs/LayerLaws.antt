@@ -91,7 +91,8 @@ every_with P r (q ∷ qs) here all = by_test (is_below r q)
     (λ e. let K : List Region → Type 0 = AllByRecursion P in subst K (sym (with-before r q qs e)) (here, (all.0, all.1)))
     (λ e. let K : List Region → Type 0 = AllByRecursion P in subst K (sym (with-behind r q qs e)) (all.0, every_with P r qs here all.1))
 
-abbrev InOrder : List Region → Type 0
+-- none lies below one that it stands behind
+abbrev pub InOrder : List Region → Type 0
 InOrder [] = Unit {0}
 InOrder (q ∷ qs) = AllByRecursion (λ r. is_below r q ≡ false) qs × InOrder qs
 
@@ -101,7 +102,7 @@ in_order_with r (q ∷ qs) h = by_test (is_below r q)
     (λ e. subst InOrder (sym (with-before r q qs e)) ((below_flips r q e, every_more (λ s g. below_chain q r s g e) qs h.0), h))
     (λ e. subst InOrder (sym (with-behind r q qs e)) (every_with (λ s. is_below s q ≡ false) r qs e h.0, in_order_with r qs h.1))
 
-in_order_by_layer : (rs : List Region) → InOrder (by_layer rs)
+pub in_order_by_layer : (rs : List Region) → InOrder (by_layer rs)
 in_order_by_layer [] = tt
 in_order_by_layer (r ∷ rs) = in_order_with r (by_layer rs) (in_order_by_layer rs)
 

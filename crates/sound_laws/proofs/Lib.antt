@@ -1,7 +1,7 @@
 -- The proofs of the laws.
 pub mod Cases
 pub mod NumberLaws
-mod FadeLaws
+pub mod FadeLaws
 mod LaneLaws
 mod DeskLaws
 mod DepthLaws
@@ -14,5 +14,5 @@ mod HeadLaws
 pub mod WrittenLaws
 mod ExtensibleLaws
 mod SoundLaws
-mod LayerLaws
+pub mod LayerLaws
 mod SilenceLaws

@@ -1,2 +1,3 @@
 -- Lemmas of the tests.
 pub mod Blocks
+pub mod Sources

@@ -132,4 +132,10 @@ fn a_route_is_even_off_its_lines(rt: HostRuntime) {
     assert!(rt; is_even(alloc, &falls, Mode::Play, [3, 3], None));
     assert!(rt; is_even(alloc, &falls, Mode::Manual, [0, 9], Some(5)));
     assert!(rt; is_even(alloc, &[], Mode::Play, [0, 9], Some(5)));
+    let rests = [point(10, 9), point(20, 7), point(30, 7), point(40, 8)];
+    assert!(rt; is_even(alloc, &rests, Mode::Play, [20, 29], Some(7)));
+    assert!(rt; is_even(alloc, &rests, Mode::Play, [25, 25], Some(7)));
+    assert!(rt; is_even(alloc, &rests, Mode::Play, [19, 29], None));
+    assert!(rt; is_even(alloc, &rests, Mode::Play, [20, 30], None));
+    assert!(rt; is_even(alloc, &rests, Mode::Play, [40, u64::MAX], Some(8)));
 }

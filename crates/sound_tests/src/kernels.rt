@@ -2,7 +2,9 @@
 ghost use Rattle.std.specs.Prelude.{◌≡◌, ◌^◌, ◌≤◌, length, replicate};
 ghost use Rattle.mix_kernel.specs.Bounds.{IsNear, AllNear, AllAtMost};
 
-use mix_kernel::{add_even, add_scaled, clip_all, clip_file, lay_over, scale_block};
+use mix_kernel::{
+    add_even, add_scaled, add_sides, clip_all, clip_file, lay_over, scale_block, scale_each,
+};
 use ses_units::{Bits, Gain};
 
 const LENGTHS: [usize; 6] = [0, 1, 7, 8, 9, 4096];
@@ -92,6 +94,28 @@ fn adds_evenly(n: usize, sum: i64, sample: i32, gain: Gain, want: i64) -> bool
     are(&sums, n, want, sum)
 }
 
+// Whether the first n frames of two channels are `want`, and the others as they were.
+fn are_sides(sums: &[i64; 4096], n: usize, want: [i64; 2], was: i64) -> bool {
+    for (i, sum) in sums.iter().enumerate() {
+        let due = if i / 2 < n { want[i % 2] } else { was };
+        if *sum != due {
+            return false;
+        }
+    }
+    true
+}
+
+fn joins(n: usize, sum: i64, sample: i32, gains: [Gain; 3], want: [i64; 2]) -> bool
+    requires room { n ≤ 2048 }
+    requires near { IsNear (2 ^ 44) sum }
+{
+    let mut sums = sums_of(sum);
+    let samples = [sample; 4096];
+    let [gain, left, right] = gains;
+    add_sides(&mut sums[..2 * n], &samples[..n], gain, left, right);
+    are_sides(&sums, n, want, sum)
+}
+
 fn lays(n: usize, sum: i64, sample: i32, fade: u32, opaque: bool, want: i64) -> bool
     requires room { n ≤ 4096 }
     requires near { IsNear (2 ^ 44) sum }
@@ -122,6 +146,17 @@ fn scales(n: usize, sample: i32, gain: Gain, want: i32) -> bool
     are_samples(&out, n, want)
 }
 
+fn scales_each(n: usize, sample: i32, gain: u32, want: i32) -> bool
+    requires room { n ≤ 4096 }
+    requires quiet { gain ≤ 262144 }
+{
+    let samples = [sample; 4096];
+    let gains = gains_of(gain);
+    let mut out = [7; 4096];
+    scale_each(&samples[..n], &gains[..n], &mut out[..n]);
+    are_samples(&out, n, want)
+}
+
 fn files(n: usize, sample: i32, bits: Bits, want: i32) -> bool
     requires { n ≤ 4096 }
 {
@@ -133,6 +168,33 @@ fn files(n: usize, sample: i32, bits: Bits, want: i32) -> bool
 
 fn gain(n: u32) -> Gain {
     Gain::new(n).unwrap_or(Gain::UNITY)
+}
+
+#[test]
+fn sums_of_two_channels_take_one(rt: HostRuntime) {
+    let loud = gain(262_144);
+    for n in LENGTHS {
+        let n = n.min(2_048);
+        assert!(rt; joins(n, 5, -3, [gain(32_768), gain(65_536), gain(32_768)], [3, 4]));
+        assert!(rt;
+            joins(
+                n,
+                0,
+                LOUDEST,
+                [loud, loud, gain(1)],
+                [34_359_738_352, 131_071]
+            )
+        );
+        assert!(rt;
+            joins(
+                n,
+                0,
+                LOWEST,
+                [loud, gain(1), loud],
+                [-131_072, -34_359_738_368]
+            )
+        );
+    }
 }
 
 #[test]
@@ -167,6 +229,10 @@ fn blocks_are_clipped_scaled_and_filed(rt: HostRuntime) {
         assert!(rt; clips(n, NEAR, LOUDEST));
         assert!(rt; clips(n, -NEAR, LOWEST));
         assert!(rt; clips(n, -2_147_483_648, LOWEST));
+        assert!(rt; scales_each(n, -1, 32_768, -1));
+        assert!(rt; scales_each(n, LOUDEST, 65_537, LOUDEST));
+        assert!(rt; scales_each(n, LOWEST, 262_144, LOWEST));
+        assert!(rt; scales_each(n, 8_388_607, 262_144, 33_554_428));
         assert!(rt; scales(n, -3, gain(32_768), -2));
         assert!(rt; scales(n, LOWEST, gain(262_144), LOWEST));
         assert!(rt; scales(n, LOUDEST, gain(65_535), 2_147_450_879));

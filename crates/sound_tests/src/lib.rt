@@ -5,3 +5,5 @@
 mod gains;
 #[cfg(test)]
 mod kernels;
+#[cfg(test)]
+mod layers;

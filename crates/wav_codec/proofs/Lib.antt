@@ -5,3 +5,5 @@ pub mod Walk
 pub mod Steps
 pub mod Formats
 pub mod Extensions
+pub mod LaneLemmas
+pub mod SplitLemmas

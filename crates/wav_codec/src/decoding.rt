@@ -4,6 +4,7 @@ ghost use Rattle.std.specs.Prelude.{◌≡◌, ◌⊎◌, ◌*◌, ◌/◌, [], 
 ghost use Rattle.sound_model.specs.Numbers.{sample_at};
 ghost use Rattle.wav_codec.specs.Samples.{samples_of, IsInside};
 
+use crate::fours::decode_24;
 use crate::info::WavInfo;
 
 /// Reads the samples of these bytes of a file with this head; the first begins with the first byte.
@@ -41,16 +42,6 @@ fn decode_16(bytes: &[u8], out: &mut [i32])
     }
 }
 
-fn decode_24(bytes: &[u8], out: &mut [i32])
-    requires { length bytes.now ≡ length out.old * 3 }
-    ensures { out.new ≡ samples_of 24 (length out.old) bytes.now }
-{
-    let (triples, _) = bytes.as_chunks::<3>();
-    for (i, triple) in triples.iter().enumerate() {
-        out[i] = sample_24(*triple);
-    }
-}
-
 fn sample_8(byte: u8) -> i32
     ensures { result ≡ sample_at 8 (byte ∷ []) }
 {
@@ -61,11 +52,4 @@ fn sample_16(pair: [u8; 2]) -> i32
     ensures { result ≡ sample_at 16 pair }
 {
     i32::from(i16::from_le_bytes(pair)) * 256
-}
-
-fn sample_24(triple: [u8; 3]) -> i32
-    ensures { result ≡ sample_at 24 triple }
-{
-    let [low, middle, high] = triple;
-    i32::from_le_bytes([0, low, middle, high]) >> 8
 }

@@ -6,6 +6,7 @@ mod decoding;
 mod encoding;
 mod fields;
 mod form;
+mod fours;
 mod info;
 mod refusal;
 mod scan;

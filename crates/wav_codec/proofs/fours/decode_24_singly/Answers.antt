@@ -2,7 +2,7 @@ use Rattle.std.proofs.Common.{ℕ, ◌*◌, ℤ, pos, drop, length, ap, ◌∙�
 use Rattle.std.proofs.lemmas.List.FromFn.{fill_by_all}
 use Rattle.sound_model.specs.Numbers.{sample_at}
 use Rattle.wav_codec.proofs.Samples.{piece_at, sample_of_three, written_more}
-use Rattle.wav_codec.proofs.decoding.decode_24.Goals as goal
+use Rattle.wav_codec.proofs.fours.decode_24_singly.Goals as goal
 
 pub loop-i-preserved : goal.loop-i-preserved
 loop-i-preserved c =

@@ -1,6 +1,6 @@
 use Rattle.std.proofs.Common.{◌≡◌, ℕ, ◌*◌, ◌<◌, pos, drop, get_or}
 use Rattle.sound_model.specs.Numbers.{sample_at}
-use Rattle.wav_codec.proofs.decoding.decode_24.Given as goal
+use Rattle.wav_codec.proofs.fours.decode_24_singly.Given as goal
 
 -- the samples so far
 abbrev pub invariant-loop-i : goal.invariant-loop-i

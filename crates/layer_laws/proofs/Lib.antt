@@ -1,0 +1,3 @@
+-- The proofs of the laws.
+pub mod NearLemmas
+pub mod SpanLemmas

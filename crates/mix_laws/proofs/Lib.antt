@@ -1,0 +1,3 @@
+-- The laws of mixing, and the lemmas that they stand on.
+pub mod SumLemmas
+pub mod MixingLaws

@@ -1,0 +1,2 @@
+-- What the laws of mixing say.
+pub mod Mixing
