@@ -5,3 +5,4 @@ pub mod EditionState
 pub mod Entered
 pub mod Steps
 pub mod Laws
+pub mod Texts

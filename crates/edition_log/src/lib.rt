@@ -5,6 +5,7 @@ mod edition;
 mod laws;
 mod moving;
 mod reason;
+mod reason_text;
 
 pub use edition::Edition;
 pub use laws::{built_edits_leave_the_session, editions_play_their_places};

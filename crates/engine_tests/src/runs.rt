@@ -1,4 +1,5 @@
 //! Worked runs over a world in memory.
+mod checked;
 mod extensible;
 mod migrated;
 mod played;
@@ -6,6 +7,7 @@ mod refused;
 mod row;
 
 use crate::bench::{block_range, failing_media, row_holds};
+use checked::CHECKED;
 use cycle_journal::{Entry, Note, State};
 use extensible::EXTENSIBLE;
 use migrated::{MIGRATED, UNBUILT};
@@ -103,7 +105,7 @@ fn has_played(ended: &Ended, row: &Row) -> bool {
 fn leaves(ended: &Ended, row: &Row) -> bool {
     ended.status == status_of(&row.ends)
         && ended.status.number() == row.number
-        && ended.world.out.bytes().is_empty()
+        && ended.world.out.bytes() == row.out
         && has_played(ended, row)
         && are_joined(ended.world.master.bytes(), row.master)
 }
@@ -145,7 +147,14 @@ fn each_export_leaves_what_was_worked_out(rt: HostRuntime) {
 }
 
 #[test]
-fn each_refused_command_ends_with_its_status(rt: HostRuntime) {
+fn each_check_counts_the_parts_or_says_what_is_wrong(rt: HostRuntime) {
+    for (at, row) in CHECKED.iter().enumerate() {
+        row_holds(&rt, at, is_right(&rt, rt.alloc(), row) == Ok(true));
+    }
+}
+
+#[test]
+fn each_refused_command_ends_with_its_status_and_its_line(rt: HostRuntime) {
     for (at, row) in REFUSED.iter().chain(EXTENSIBLE).chain(MIGRATED).enumerate() {
         row_holds(&rt, at, is_right(&rt, rt.alloc(), row) == Ok(true));
     }

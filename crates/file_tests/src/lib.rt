@@ -1,6 +1,8 @@
-//! Values from outside for WAV files, the parts of sessions, and their texts.
+//! Values from outside for WAV files, the parts of sessions, their texts, and the lines of errors.
 #![tactic(auto)]
 
+#[cfg(test)]
+mod error_lines;
 #[cfg(test)]
 mod parts;
 #[cfg(test)]

@@ -1,5 +1,6 @@
 -- The plain formulas of the kernels: lists that go on item by item, as sums, samples and gains of one block do.
-use Rattle.std.specs.Prelude.{ℕ, ◌-◌, ℤ, ◌+ℤ◌, Bool, if◌then◌else◌, List, [], ◌∷◌, map}
+use Rattle.std.specs.Prelude.{ℕ, ◌-◌, ◌/◌, ℤ, ◌+ℤ◌, Bool, if◌then◌else◌, List, [], ◌∷◌, map}
+use Rattle.std.specs.List.{range_with_len}
 use Rattle.std.specs.Simd.Lanes.{zip2}
 use Rattle.sound_model.specs.Numbers.{unity, scale, clip, file_sample}
 
@@ -33,3 +34,7 @@ clipped sums = map clip sums
 -- samples as a file of so many bits holds them
 abbrev pub filed : ℕ → List ℤ → List ℤ
 filed bits samples = map (file_sample bits) samples
+
+-- a gain for each frame, which stands at each of the frame's channels
+abbrev pub spread : (ℕ → ℕ) → ℕ → ℕ → List ℕ
+spread gain channels n = map (λ k. gain (k / channels)) (range_with_len 0 n)

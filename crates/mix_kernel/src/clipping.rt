@@ -4,7 +4,7 @@ ghost use Rattle.ses_units.specs.Bits.{bits_of};
 ghost use Rattle.mix_kernel.specs.Blocks.{scaled, scaled_evenly, clipped, filed};
 ghost use Rattle.mix_kernel.specs.Bounds.{AllAtMost};
 
-use crate::item::{scaled, scaled_sample};
+use crate::item::clipped_sample;
 use ses_units::{Bits, Gain, clip, file_sample};
 
 /// Writes sums as samples, each the nearest number that 32 bits hold.
@@ -24,7 +24,7 @@ pub fn scale_block(samples: &[i32], gain: Gain, out: &mut [i32])
 {
     let gain = gain.value();
     for (i, s) in samples.iter().enumerate() {
-        out[i] = clip(scaled(i64::from(*s), gain));
+        out[i] = clipped_sample(*s, gain);
     }
 }
 
@@ -36,7 +36,7 @@ pub fn scale_each(samples: &[i32], gains: &[u32], out: &mut [i32])
     ensures { out.new ≡ clipped (scaled samples.now gains.now) }
 {
     for (i, s) in samples.iter().enumerate() {
-        out[i] = clip(scaled_sample(*s, gains[i]));
+        out[i] = clipped_sample(*s, gains[i]);
     }
 }
 

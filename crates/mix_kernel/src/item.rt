@@ -42,9 +42,40 @@ pub(crate) fn scaled_sample(s: i32, g: u32) -> i64
     product(s, g) >> 16
 }
 
+// A number as its high half and its low one, of 32 bits each.
+fn halves(v: i64) -> (i32, u32)
+    ensures { v ≡ result.0 *ℤ pos 4294967296 +ℤ pos result.1 }
+{
+    let high = v >> 32;
+    (high as i32, (v - high * 4_294_967_296) as u32)
+}
+
+// The nearest number that 32 bits hold, of these halves: where all fits, the high half is the low one's sign.
+fn nearest(high: i32, low: u32) -> i32
+    ensures { result ≡ sound.clip (high *ℤ pos 4294967296 +ℤ pos low) }
+{
+    let sign = if low < 2_147_483_648 { 0 } else { -1 };
+    if high > sign {
+        i32::MAX
+    } else if high < sign {
+        i32::MIN
+    } else {
+        low.cast_signed()
+    }
+}
+
+// A sample scaled by a gain and clipped. Comparing halves is cheap in vectors, which hold four of them.
+pub(crate) fn clipped_sample(s: i32, g: u32) -> i32
+    requires { g ≤ 262144 }
+    ensures { result ≡ sound.clip (sound.scale s g) }
+{
+    let (high, low) = halves(scaled_sample(s, g));
+    nearest(high, low)
+}
+
 // A sum with a scaled sample more.
 pub(crate) fn added(sum: i64, s: i32, g: u32) -> i64
-    requires near { IsNear (2 ^ 44) sum }
+    requires near { IsNear (2 ^ 48) sum }
     requires quiet { g ≤ 262144 }
     ensures { result ≡ sum +ℤ sound.scale s g }
 {
@@ -53,7 +84,7 @@ pub(crate) fn added(sum: i64, s: i32, g: u32) -> i64
 
 // A sum with a sample more that is scaled by one gain, rounded down, and then by another.
 pub(crate) fn joined(sum: i64, s: i32, g: u32, side: u32) -> i64
-    requires near { IsNear (2 ^ 44) sum }
+    requires near { IsNear (2 ^ 48) sum }
     requires quiet { g ≤ 262144 }
     requires side { side ≤ 262144 }
     ensures { result ≡ sum +ℤ sound.scale (sound.scale s g) side }

@@ -6,9 +6,11 @@ mod clipping;
 mod item;
 mod layers;
 mod sides;
+mod spreading;
 mod sums;
 
 pub use clipping::{clip_all, clip_file, scale_block, scale_each};
 pub use layers::lay_over;
 pub use sides::add_sides;
+pub use spreading::spread;
 pub use sums::{add_even, add_scaled};

@@ -10,7 +10,7 @@ use ses_units::Gain;
 /// then scaled by `left` into the first channel and by `right` into the second. A sum goes at most 2^35 on.
 pub fn add_sides(sums: &mut [i64], samples: &[i32], gain: Gain, left: Gain, right: Gain)
     requires samples { length sums.old ≡ length samples.now * 2 }
-    requires near { AllNear (2 ^ 44) sums.old }
+    requires near { AllNear (2 ^ 48) sums.old }
     ensures sums { sums.new ≡ summed sums.old (sided gain left right samples.now) }
     ensures near { GoesOn (2 ^ 35) sums.old sums.new }
 {

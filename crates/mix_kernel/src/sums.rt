@@ -25,7 +25,7 @@ pub fn add_scaled(sums: &mut [i64], samples: &[i32], gains: &[u32])
 /// gain on.
 pub fn add_even(sums: &mut [i64], samples: &[i32], gain: Gain)
     requires samples { length samples.now ≡ length sums.old }
-    requires near { AllNear (2 ^ 44) sums.old }
+    requires near { AllNear (2 ^ 48) sums.old }
     ensures sums { sums.new ≡ summed sums.old (scaled_evenly samples.now gain) }
     ensures near { GoesOn (gain * 2 ^ 15) sums.old sums.new }
 {

@@ -1,3 +1,4 @@
 -- The laws of mixing, and the lemmas that they stand on.
 pub mod SumLemmas
 pub mod MixingLaws
+pub mod WideLaws

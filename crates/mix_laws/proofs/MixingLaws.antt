@@ -8,7 +8,7 @@ use Rattle.sound_model.specs.Numbers.{clip}
 use Rattle.sound_model.specs.Routes.{Route, feeds, links, any_solo, fed, fed_by, taken_in, input_here, input_within, route_input}
 use Rattle.sound_laws.specs.Desks.{DeeperIsTheSame, OnlyLinksFeed}
 use Rattle.route_graph.specs.Order.{IsOrder}
-use Rattle.mix_laws.specs.Mixing.{InputsAreFed, OrderSumsAll, OrderMixes, fed_at, fed_along}
+use Rattle.mix_laws.specs.Mixing.{InputsAreFed, OrderSumsAll, OrderMixes, OrderIsWhole, TracksTakeTheirOwn, AlongGoesOn, fed_at, fed_along}
 use Rattle.mix_laws.proofs.SumLemmas.{by_test, sum_at, is_in, sum_is_chosen, all_give}
 
 input_step : (routes : List Route) (samples : ℕ → ℕ → ℤ) (x deep to c : ℕ) →
@@ -97,6 +97,14 @@ past_front [] back i k e = let same : i ≡ k = omega (arith, e) in ap (slice_ge
 past_front (f ∷ fs) back zero k e = absurd (omega (arith, e))
 past_front (f ∷ fs) back (suc i) k e = past_front fs back i k (omega (arith, e))
 
+no_more : (a : ℤ) → a +ℤ pos 0 ≡ a
+no_more a = +ℤ_comm a (pos 0) ∙ +ℤ_idl a
+
+pub along_goes_on : AlongGoesOn
+along_goes_on routes inputs x to channels c f front =
+    along_append routes inputs x to channels c front (f ∷ [])
+    ∙ ap (λ s. fed_along routes inputs x to channels c front +ℤ s) (no_more (fed_at (any_solo routes) x to channels c (inputs f) (slice_get routes f)))
+
 -- no link leads back from where a route is reached
 none_leads_back : (routes : List Route) (front back : List ℕ) (to : ℕ) → IsOrder routes (front ++ to ∷ back) →
     (k f : ℕ) → slice_get (to ∷ back) k ≡ Some f → links routes f to ≡ false
@@ -127,5 +135,14 @@ order_mixes deeper only routes front back samples x to c r none is there bus =
     inputs : ℕ → ℕ → ℤ
     inputs = route_input routes samples x
 
-    no_more : (a : ℤ) → a +ℤ pos 0 ≡ a
-    no_more a = +ℤ_comm a (pos 0) ∙ +ℤ_idl a
+pub order_is_whole : DeeperIsTheSame → OrderIsWhole
+order_is_whole deeper routes order samples x to c r none is there bus =
+    inputs_are_fed deeper routes samples x to c none
+    ∙ bus_is_fed routes samples x to c r there bus
+    ∙ ap clip (sym (order_sums_all routes order (route_input routes samples x) x to r.channels c is))
+
+pub tracks_take_their_own : DeeperIsTheSame → TracksTakeTheirOwn
+tracks_take_their_own deeper routes samples x f c t q none there own =
+    inputs_are_fed deeper routes samples x f c none
+    ∙ ap (λ o. input_here routes samples x (route_input routes samples x) f o c) there
+    ∙ ap (λ o. taken_in routes samples x (route_input routes samples x) f q.channels o c) own

@@ -1,2 +1,3 @@
 -- What the laws of mixing say.
 pub mod Mixing
+pub mod Wide

@@ -30,3 +30,20 @@ abbrev pub OrderMixes : Type 0
 OrderMixes = (routes : List Route) (front back : List ℕ) (samples : ℕ → ℕ → ℤ) (x to c : ℕ) (r : Route) → NoCycle routes →
     IsOrder routes (front ++ to ∷ back) → slice_get routes to ≡ Some r → r.track ≡ None →
     route_input routes samples x to c ≡ clip (fed_along routes (route_input routes samples x) x to r.channels c front)
+
+-- Where all routes of an order are done, the input of a bus or the master is whole.
+abbrev pub OrderIsWhole : Type 0
+OrderIsWhole = (routes : List Route) (order : List ℕ) (samples : ℕ → ℕ → ℤ) (x to c : ℕ) (r : Route) → NoCycle routes → IsOrder routes order →
+    slice_get routes to ≡ Some r → r.track ≡ None →
+    route_input routes samples x to c ≡ clip (fed_along routes (route_input routes samples x) x to r.channels c order)
+
+-- The input of a track's route is the track's own sample.
+abbrev pub TracksTakeTheirOwn : Type 0
+TracksTakeTheirOwn = (routes : List Route) (samples : ℕ → ℕ → ℤ) (x f c t : ℕ) (q : Route) → NoCycle routes →
+    slice_get routes f ≡ Some q → q.track ≡ Some t → route_input routes samples x f c ≡ samples t c
+
+-- One more route along an order gives what it gives.
+abbrev pub AlongGoesOn : Type 0
+AlongGoesOn = (routes : List Route) (inputs : ℕ → ℕ → ℤ) (x to channels c f : ℕ) (front : List ℕ) →
+    fed_along routes inputs x to channels c (front ++ f ∷ []) ≡
+    fed_along routes inputs x to channels c front +ℤ fed_at (any_solo routes) x to channels c (inputs f) (slice_get routes f)

@@ -3,5 +3,10 @@
 #![tactic(auto)]
 
 mod mixing;
+mod wide;
 
-pub use mixing::{inputs_are_fed, order_mixes, order_sums_all};
+pub use mixing::{
+    along_goes_on, inputs_are_fed, order_is_whole, order_mixes, order_sums_all,
+    tracks_take_their_own,
+};
+pub use wide::links_lead_wide;

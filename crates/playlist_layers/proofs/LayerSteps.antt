@@ -12,10 +12,9 @@ use Rattle.sound_laws.proofs.NumberLaws.{scale_unity, scale-silence}
 use Rattle.session_model.specs.Frames.{interleaved}
 use Rattle.ramp_fixed.specs.Fades.{IsUnfaded}
 use Rattle.ramp_fixed.proofs.FadeValues.{fade_full}
-use Rattle.mix_kernel.specs.Blocks.{scaled_evenly, summed, laid_over}
-use Rattle.playlist_layers.specs.Blocks.{spread}
+use Rattle.mix_kernel.specs.Blocks.{scaled_evenly, summed, laid_over, spread}
 use Rattle.playlist_layers.specs.Spans.{CoversSpan}
-use Rattle.playlist_layers.proofs.Ranges.{same_along, frame_within}
+use Rattle.mix_kernel.proofs.Ranges.{same_along, frame_within}
 
 -- ---- one sample
 

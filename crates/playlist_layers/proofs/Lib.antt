@@ -1,10 +1,9 @@
 -- Lemmas of blocks, spans and layers.
 mod Numbers
-mod Ranges
 mod LayerSteps
 mod Places
 mod HeardLemmas
-mod Reading
+pub mod Reading
 mod MeetingLemmas
-mod SpanLemmas
+pub mod SpanLemmas
 pub mod HiddenLaws

@@ -1,19 +1,13 @@
--- How near sums lie, and samples that a gain leaves in their range.
-use Rattle.std.proofs.Common.{◌≡◌, ℕ, ◌+◌, ◌≤◌, ℤ, List, [], ◌∷◌, All, refl, ap₂, arith}
+-- Samples that a gain leaves in their range.
+use Rattle.std.proofs.Common.{◌≡◌, ℕ, ◌≤◌, ℤ, List, [], ◌∷◌, All, refl, ap₂, arith}
 use Rattle.std.proofs.lemmas.Int.{ints}
-use Rattle.std.proofs.lemmas.List.Elements.{All-weaker, All-head, All-tail}
+use Rattle.std.proofs.lemmas.List.Elements.{All-head, All-tail}
 use Rattle.sound_model.specs.Numbers.{scale, clip}
 use Rattle.sound_laws.proofs.NumberLaws.{scale_unity}
 use Rattle.session_model.specs.Frames.{IsSample}
 use Rattle.mix_kernel.specs.Blocks.{scaled_evenly, clipped}
-use Rattle.mix_kernel.specs.Bounds.{IsNear, AllNear, GoesOn}
+use Rattle.mix_kernel.specs.Bounds.{IsNear}
 use Rattle.mix_kernel.proofs.Formulas.{scale-near}
-
-pub near_more : (a b : ℕ) (zs : List ℤ) → a ≤ b → AllNear a zs → AllNear b zs
-near_more a b zs h near = All-weaker (IsNear a) (IsNear b) (λ z n. (omega (arith, ints), omega (arith, ints))) zs near
-
-pub goes_more : (a b : ℕ) (old new : List ℤ) → a ≤ b → GoesOn a old new → GoesOn b old new
-goes_more a b old new h goes = λ n near. near_more (n + a) (n + b) new (omega arith) (goes n near)
 
 -- ---- one gain for all samples
 

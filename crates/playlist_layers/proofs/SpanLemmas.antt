@@ -20,7 +20,7 @@ use Rattle.session_model.specs.Frames.{interleaved, IsSample}
 use Rattle.mix_kernel.specs.Blocks.{clipped}
 use Rattle.playlist_layers.specs.Blocks.{layer_block, heard_block, track_block}
 use Rattle.playlist_layers.specs.Spans.{CoversSpan, SoundAlike}
-use Rattle.playlist_layers.proofs.Ranges.{same_along, frame_within}
+use Rattle.mix_kernel.proofs.Ranges.{same_along, frame_within}
 use Rattle.playlist_layers.proofs.LayerSteps.{covers_there, over_there, laid, unfaded_at}
 use Rattle.playlist_layers.proofs.Numbers.{clip_sample}
 

@@ -1,6 +1,5 @@
 -- A block of a track, and of regions in layers: samples frame by frame, in each frame channel by channel.
-use Rattle.std.specs.Prelude.{◌≡◌, ℕ, ◌/◌, ℤ, List, length, map}
-use Rattle.std.specs.List.{range_with_len}
+use Rattle.std.specs.Prelude.{◌≡◌, ℕ, ℤ, List, length}
 use Rattle.sound_model.specs.Numbers.{clip}
 use Rattle.sound_model.specs.Regions.{Region, Sounds}
 use Rattle.sound_model.specs.Layers.{lay, over, track_sample}
@@ -17,10 +16,6 @@ layer_block sounds regions channels from n = interleaved (λ x c. lay sounds c x
 -- and after
 abbrev pub heard_block : Sounds → List Region → ℕ → ℕ → ℕ → List ℤ
 heard_block sounds regions channels from n = interleaved (λ x c. clip (lay sounds c x regions)) channels from n
-
--- a gain for each frame, which stands at each of the frame's channels
-abbrev pub spread : (ℕ → ℕ) → ℕ → ℕ → List ℕ
-spread gain channels n = map (λ k. gain (k / channels)) (range_with_len 0 n)
 
 -- from a position on, each sum is that of the region over the sum that was there
 abbrev pub LaysOver : Sounds → Region → ℕ → ℕ → List ℤ → List ℤ → Type 0

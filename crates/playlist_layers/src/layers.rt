@@ -1,17 +1,17 @@
 //! One region over a span that it covers: its frames are read, scaled, faded, and laid over the
 //! sums below it.
-ghost use Rattle.std.specs.Prelude.{◌≡◌, ◌+◌, ◌*◌, ◌/◌, ◌%◌, ◌^◌, ◌≤◌, ◌⊎◌, pos, length, replicate, slice_index, if◌then◌else◌, All, IfOk, OnOk};
+ghost use Rattle.std.specs.Prelude.{◌≡◌, ◌+◌, ◌*◌, ◌/◌, ◌%◌, ◌^◌, ◌≤◌, ◌⊎◌, pos, length, replicate, if◌then◌else◌, All, IfOk, OnOk};
 ghost use Rattle.sound_model.specs.Regions.{fade};
 ghost use Rattle.session_model.specs.Frames.{sounds_of, IsSample};
 ghost use Rattle.session_model.specs.Region.{region_of, IsRegion};
-ghost use Rattle.mix_kernel.specs.Blocks.{scaled_evenly, summed, laid_over};
+ghost use Rattle.mix_kernel.specs.Blocks.{scaled_evenly, summed, laid_over, spread};
 ghost use Rattle.mix_kernel.specs.Bounds.{AllNear, AllAtMost, GoesOn};
-ghost use Rattle.playlist_layers.specs.Blocks.{spread, LaysOver};
+ghost use Rattle.playlist_layers.specs.Blocks.{LaysOver};
 ghost use Rattle.playlist_layers.specs.Reads.{HasSource, IsRead};
 ghost use Rattle.playlist_layers.specs.Spans.{CoversSpan};
 
 use crate::heard::is_full;
-use mix_kernel::{add_even, lay_over, scale_block};
+use mix_kernel::{add_even, lay_over, scale_block, spread};
 use ramp_fixed::fade_block;
 use ses_io::{Failed, NoMemory};
 use session_model::{Frames, Region};
@@ -40,24 +40,6 @@ impl Model for LayerRoom {
       scaled : length l.scaled.items ≡ length l.samples.items;
       gains : length l.gains.items ≡ length l.samples.items;
     } };
-}
-
-// Puts each frame's gain, which stand one after another, at each of the frame's channels.
-fn spread(gains: &mut [u32], channels: u16)
-    requires channels { (channels ≡ 1) ⊎ (channels ≡ 2) }
-    requires whole { length gains.old % channels ≡ 0 }
-    ensures { gains.new ≡ spread (slice_index gains.old) channels (length gains.old) }
-{
-    if channels == 1 {
-        return;
-    }
-    let mut i = gains.len() / 2;
-    while i > 0 {
-        i -= 1;
-        let gain = gains[i];
-        gains[2 * i] = gain;
-        gains[2 * i + 1] = gain;
-    }
 }
 
 // The fade values of so many frames of a region from one on, each at each channel of its frame.

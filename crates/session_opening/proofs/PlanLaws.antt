@@ -8,8 +8,8 @@ use Rattle.engine_model.specs.PlainSession.{is_plain}
 use Rattle.session_walk.specs.Section.{Read}
 use Rattle.session_toml.specs.Session.{session}
 use Rattle.session_toml.proofs.SessionLaws.{accepted_is_valid}
-use Rattle.session_opening.specs.Laws.{IsPlayable, FirstOf, PlanIsPlayable, RefusedIsFirst}
-use Rattle.session_opening.specs.Plan.{◌>>=◌, Open, Plan, Wrong, SessionRefused, NotBuilt, SourceRefused, text_in, read, plain, read_session, session_in, sources_in, plan_of_export}
+use Rattle.session_opening.specs.Laws.{IsOpen, IsPlayable, FirstOf, OpenIsValid, PlanIsPlayable, RefusedIsFirst}
+use Rattle.session_opening.specs.Plan.{◌>>=◌, Open, Plan, Wrong, SessionRefused, NotBuilt, SourceRefused, text_in, read, plain, read_session, session_in, session_plan, sources_in, plan_of_export}
 use Rattle.session_opening.proofs.SourceLaws.{each_head, first_of}
 
 -- what came first, and what it went on to
@@ -51,6 +51,16 @@ plan_is_playable files e o is =
     let same : record { session = s.0; from = e.from; cycles = e.cycles } ≡ o = cc in
     let fit = session_is (files e.session) s.0 s.1 in
     subst K same (record { session = s.1; from = refl; cycles = refl; valid = fit.0; plain = fit.1; heads = each_head files s.0.rate s.0.sources.items u.1 })
+
+pub open_is_valid : OpenIsValid
+unfolding session_plan
+open_is_valid files name s is =
+    let t = after (read_session (files name)) _ s is in
+    let u = after (sources_in files t.0.rate t.0.sources.items) _ s t.2 in
+    let same : t.0 ≡ s = cc in
+    let K : Session → Type 0 = λ r. IsOpen files name r in
+    let text = read_of_bytes (files name) t.0 t.1 in
+    subst K same (record { session = t.1; valid = accepted_is_valid text.0 t.0 text.1; heads = each_head files t.0.rate t.0.sources.items u.1 })
 
 -- nothing is said of a source
 abbrev NoSourceIn : {A : Type 0} → Open A → Type 0

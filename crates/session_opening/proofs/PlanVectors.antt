@@ -2,8 +2,8 @@
 use Rattle.std.proofs.Common.{◌≡◌, ℕ, refl, List, [], ◌∷◌, Option, Some, None, codes}
 use Rattle.std.specs.Prelude.{Err}
 use Rattle.session_model.specs.declared.refusal.SessionRefusal.TheVariants.{Absent}
-use Rattle.session_opening.specs.Plan.{SessionRefused, plan_of_export, read_session, session_in}
-use Rattle.session_opening.specs.Words.{ToExport, ToMigrate, command, positional, export_of}
+use Rattle.session_opening.specs.Plan.{SessionRefused, plan_of_export, read_session, session_in, session_plan}
+use Rattle.session_opening.specs.Words.{ToExport, ToMigrate, ToCheck, command, positional, export_of}
 
 -- no files
 abbrev nothing : List ℕ → Option (List ℕ)
@@ -48,6 +48,22 @@ of_two = refl
 a_path : command (codes "migrate" ∷ codes "../s.toml" ∷ []) ≡ None
 unfolding positional
 a_path = refl
+
+of_a_check : command (codes "check" ∷ codes "s.toml" ∷ []) ≡ Some (ToCheck (codes "s.toml"))
+unfolding positional
+of_a_check = refl
+
+a_check_of_two : command (codes "check" ∷ codes "a" ∷ codes "b" ∷ []) ≡ None
+unfolding positional
+a_check_of_two = refl
+
+a_check_of_a_path : command (codes "check" ∷ codes "../s.toml" ∷ []) ≡ None
+unfolding positional
+a_check_of_a_path = refl
+
+no_file : session_plan nothing (codes "s.toml") ≡ Err (SessionRefused Absent)
+unfolding session_plan read_session
+no_file = refl
 
 absent : plan_of_export nothing (record { session = codes "s.toml"; from = 0; cycles = 2 }) ≡ Err (SessionRefused Absent)
 unfolding plan_of_export session_in read_session

@@ -6,7 +6,7 @@ use Rattle.session_model.specs.declared.session.SourceDecl.{SourceDecl}
 use Rattle.session_model.specs.Valid.{IsValid}
 use Rattle.engine_model.specs.PlainSession.{is_plain}
 use Rattle.audio_source.specs.Refusals.{SourceRefusal, source_head}
-use Rattle.session_opening.specs.Plan.{Plan, SourceRefused, plan_of_export, session_in}
+use Rattle.session_opening.specs.Plan.{Plan, SourceRefused, plan_of_export, read_session, session_in, session_plan}
 use Rattle.session_opening.specs.Words.{Export}
 
 -- What can be played: the session of the export's file, which is valid and plain, and each source's file has its head.
@@ -21,6 +21,16 @@ pub record IsPlayable (files : Files) (e : Export) (o : Plan) : Type 0 where
 -- what is opened can be played
 abbrev pub PlanIsPlayable : Type 0
 PlanIsPlayable = (files : Files) (e : Export) (o : Plan) → plan_of_export files e ≡ Ok o → IsPlayable files e o
+
+-- A session that is opened whatever its form: it is that of its file and valid, and each source's file has its head.
+pub record IsOpen (files : Files) (name : List ℕ) (s : Session) : Type 0 where
+  pub session : read_session (files name) ≡ Ok s
+  pub valid : IsValid s
+  pub heads : (i : ℕ) (d : SourceDecl) → slice_get s.sources.items i ≡ Some d → IsOk (source_head s.rate d.channels (files d.file))
+
+-- whatever form a session has that is opened, it is valid, and its sources are there
+abbrev pub OpenIsValid : Type 0
+OpenIsValid = (files : Files) (name : List ℕ) (s : Session) → session_plan files name ≡ Ok s → IsOpen files name s
 
 -- The source at this place has this name, it isn't opened for this reason, and all before it are.
 pub record IsFirst (files : Files) (rate : ℕ) (list : List SourceDecl) (called : List ℕ) (why : SourceRefusal) (place : ℕ) (d : SourceDecl) : Type 0 where

@@ -69,6 +69,13 @@ sources_in files rate (d ∷ ds) = source_in files rate d >>= λ one. sources_in
 
 -- ---- the whole
 
+-- the session of a file, whatever its form, where the files of all its sources are opened
+unfoldable pub session_plan : Files → List ℕ → Open Session
+session_plan files name = do
+  s ← read_session (files name)
+  sources ← sources_in files s.rate s.sources.items
+  Ok s
+
 pub record Plan : Type 0 where
   pub session : Session
   -- the first position, in frames

@@ -59,6 +59,8 @@ pub data Command : Type 0 where
   ToExport : Export → Command
   -- `migrate S`, by the name of the session's file
   ToMigrate : List ℕ → Command
+  -- `check S`, by the same
+  ToCheck : List ℕ → Command
 
 abbrev pub both_in : List ℕ → Option ℕ → Option ℕ → Option Export
 both_in session None cycles = None
@@ -75,13 +77,15 @@ export_by (session ∷ from ∷ cycles ∷ []) = option_map ToExport (export_of 
 export_by _ = None
 
 -- one word, a file's name
-abbrev pub migrate_by : List (List ℕ) → Option Command
-migrate_by (session ∷ []) = if is_file_name session then Some (ToMigrate session) else None
-migrate_by _ = None
+abbrev pub session_by : List (List ℕ) → Option (List ℕ)
+session_by (session ∷ []) = if is_file_name session then Some session else None
+session_by _ = None
 
 -- the command of that name, with these positional words
 abbrev pub named : List ℕ → List (List ℕ) → Option Command
-named name words = if bytes_eq name (codes "export") then export_by words else (if bytes_eq name (codes "migrate") then migrate_by words else None)
+named name words = if bytes_eq name (codes "export") then export_by words
+    else (if bytes_eq name (codes "migrate") then option_map ToMigrate (session_by words)
+    else (if bytes_eq name (codes "check") then option_map ToCheck (session_by words) else None))
 
 -- the command that the words are
 abbrev pub command : List (List ℕ) → Option Command

@@ -19,4 +19,9 @@ pub enum Command<'a> {
         /// The name of the session's file.
         session: &'a str,
     },
+    /// A session's file and the heads of its sources are read, and its parts are counted.
+    Check {
+        /// The name of the session's file.
+        session: &'a str,
+    },
 }

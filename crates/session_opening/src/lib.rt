@@ -11,8 +11,8 @@ mod unopened;
 mod words;
 
 pub use asked::{Command, Export};
-pub use laws::{plan_is_playable, refused_is_first};
-pub use loading::{Loaded, open, read_session};
+pub use laws::{open_is_valid, plan_is_playable, refused_is_first};
+pub use loading::{Loaded, Opened, open, open_session, read_session};
 pub use no_session::NoSession;
 pub use unopened::Unopened;
 pub use words::command;

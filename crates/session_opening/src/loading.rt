@@ -1,5 +1,5 @@
 //! What an export plays: edition 0 of its session, and its sources, or the first thing that is wrong.
-ghost use Rattle.std.specs.Prelude.{◌≡◌, true, [], IfOk};
+ghost use Rattle.std.specs.Prelude.{◌≡◌, ◌≢◌, true, [], IfOk};
 ghost use Rattle.session_model.specs.Valid.{IsValid};
 ghost use Rattle.engine_model.specs.PlainSession.{is_plain};
 ghost use Rattle.audio_source.specs.Opened.{IsListed, IsOpened};
@@ -86,7 +86,8 @@ fn session_in<M: Media>(alloc: Global, media: &mut M, name: &str) -> Result<Sess
 
 // The refusal of the source at that place.
 fn refused(sources: &[SourceDecl], place: u32, why: FileRefusal) -> Unopened
-    ensures { result ≡ refusal_at sources.now place why }
+    ensures value { result ≡ refusal_at sources.now place why }
+    ensures any_form { result ≢ Unopened.NotBuilt }
 {
     match sources.get(place as usize) {
         Some(source) => Unopened::Source(source.name, why),
@@ -110,6 +111,7 @@ fn sources_in<M: Media>(
     ensures heads { M.outside.tells → IfOk result
         (λ s. IsOpened (M.outside.files media.old) session.now.rate
         session.now.sources.items s.opened) }
+    ensures any_form { result ≢ Err Unopened.NotBuilt }
     ensures only_reads { OnlyReads M.outside media.old media.new }
     ensures cause { Caused M.outside media.old media.new result }
 {
@@ -121,6 +123,36 @@ fn sources_in<M: Media>(
         Err(OpenRefusal::ReadFault) => Err(Unopened::ReadFault),
         Err(OpenRefusal::NoMemory) => Err(Unopened::NoMemory),
     }
+}
+
+/// A session of whatever form, and its sources.
+#[derive(Drop)]
+pub struct Opened {
+    pub session: Session,
+    /// The sources of the session, in their order.
+    pub sources: Sources,
+}
+
+/// Opens a session, whatever its form, and the files of its sources, by their heads. What is wrong is told in this order: the
+/// session's file, its text, the first source, in their order, whose file isn't opened. It takes the memory of the session
+/// and of all later reads of the sources.
+#[tactic(auto, unfolding(crate::specs::Plan::session_plan))]
+pub fn open_session<M: Media>(alloc: Global, media: &mut M, name: &str) -> Result<Opened, Unopened>
+    ensures told { M.outside.tells → Gives (λ o. o.session)
+        (spec.session_plan (M.outside.files media.old) name.now) result }
+    ensures valid { IfOk result (λ o. IsValid o.session) }
+    ensures listed { IfOk result
+        (λ o. IsListed o.session.rate o.session.sources.items o.sources.opened) }
+    ensures held { IfOk result (λ o. o.sources.held ≡ []) }
+    ensures heads { M.outside.tells → IfOk result (λ o. IsOpened (M.outside.files media.old)
+        o.session.rate o.session.sources.items o.sources.opened) }
+    ensures any_form { result ≢ Err Unopened.NotBuilt }
+    ensures only_reads { OnlyReads M.outside media.old media.new }
+    ensures cause { Caused M.outside media.old media.new result }
+{
+    let session = read_session(alloc, media, name)?;
+    let sources = sources_in(alloc, media, &session)?;
+    Ok(Opened { session, sources })
 }
 
 /// Opens what an export plays: its session, and the files of its sources, by their heads. What is wrong is told in this

@@ -127,6 +127,12 @@ fn is_migrate(word: &str) -> bool
     word == "migrate"
 }
 
+fn is_check(word: &str) -> bool
+    ensures { result ≡ bytes_eq word.now (codes "check") }
+{
+    word == "check"
+}
+
 #[tactic(auto, unfolding(crate::specs::Words::export_of))]
 fn export_of<'a>(session: &'a str, from: &str, cycles: &str) -> Option<Export<'a>>
     ensures value { option_map export_view result ≡ spec.export_of session.now from.now cycles.now }
@@ -159,8 +165,9 @@ fn export_by<'a>(words: &[&'a str]) -> Option<Command<'a>>
     }
 }
 
-fn migrate_by<'a>(words: &[&'a str]) -> Option<&'a str>
-    ensures { option_map (λ w. spec.ToMigrate w.now) result ≡ spec.migrate_by (texts words.now) }
+// The one word, where it is a file's name.
+fn session_by<'a>(words: &[&'a str]) -> Option<&'a str>
+    ensures { option_map (λ w. w.now) result ≡ spec.session_by (texts words.now) }
 {
     match words {
         [session] if is_file_name(session.as_bytes()) => Some(session),
@@ -180,8 +187,11 @@ pub fn command<'a>(words: &[&'a str]) -> Option<Command<'a>>
     if is_export(name) {
         export_by(words.as_slice())
     } else if is_migrate(name) {
-        let session = migrate_by(words.as_slice())?;
+        let session = session_by(words.as_slice())?;
         Some(Command::Migrate { session })
+    } else if is_check(name) {
+        let session = session_by(words.as_slice())?;
+        Some(Command::Check { session })
     } else {
         None
     }

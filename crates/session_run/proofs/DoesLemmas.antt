@@ -1,23 +1,27 @@
--- What a run does, by what was asked for.
-use Rattle.std.proofs.Common.{◌≡◌, List, ℕ, [], refl, sym, ap, subst, ◌∙◌}
-use Rattle.std.specs.Prelude.{Some, None, Err}
+-- What a command does, by what was asked for.
+use Rattle.std.proofs.Common.{◌≡◌, List, ℕ, [], ◌∷◌, ◌++◌, refl, sym, ap, subst, ◌∙◌, arith}
+use Rattle.std.specs.Prelude.{Option, Some, None, Err}
 use Rattle.ses_io.specs.Outside.{MediaOutside, SinkOutside, OnlyReads}
 use Rattle.ses_io.specs.declared.world.World.{World}
 use Rattle.cycle_journal.specs.declared.status.Status.{Status}
-use Rattle.cycle_journal.specs.declared.status.Status.TheVariants.{Usage, MasterFault, OutFault, ReadFault}
+use Rattle.cycle_journal.specs.declared.status.Status.TheVariants.{Done, Usage, MasterFault, OutFault, ReadFault}
 use Rattle.engine_core.specs.Passed.{AllStayOpen}
-use Rattle.session_model.specs.declared.session.Session.{Session}
 use Rattle.session_opening.specs.Answers.{Caused, Refuses}
-use Rattle.session_opening.specs.Plan.{Open, plan_of_export, read_session}
-use Rattle.session_opening.specs.Words.{Export, ToExport, ToMigrate}
+use Rattle.session_opening.specs.Plan.{plan_of_export}
+use Rattle.session_opening.specs.Words.{Command, Export, ToExport, ToMigrate, ToCheck}
 use Rattle.session_opening.specs.declared.unopened.Unopened.{Unopened}
 use Rattle.session_run.specs.declared.outcome.Outcome.{Outcome}
-use Rattle.session_run.specs.Headline.{Does}
-use Rattle.session_run.specs.Migrated.{IsMigrated}
-use Rattle.session_run.specs.Status.{EndsWith, IsOfMigrate, ReadsFailed, WritesFailed, status_of}
+use Rattle.session_run.specs.Carried.{CarriesOut}
+use Rattle.session_run.specs.Headline.{EndsAsAsked, IsNoExport, PlaysTheExport, PlaysAnExport}
+use Rattle.session_run.specs.Replied.{IsOwnText, WritesItsOwn}
+use Rattle.session_run.specs.Status.{IsStatusOf, PlaysAsAsked, ReadsFailed, WritesFailed, status_of}
+use Rattle.session_run.proofs.OutLemmas.{none_written}
 use Rattle.session_run.proofs.PlayedLemmas as plays
 use Rattle.session_run.proofs.PlayedLemmas.{Exports}
 use Rattle.session_run.proofs.StatusLemmas as status
+
+usage_done : Usage ≡ Done → ⊥
+usage_done is = cc
 
 usage_read : Usage ≡ ReadFault → ⊥
 usage_read is = cc
@@ -28,98 +32,101 @@ usage_master is = cc
 usage_out : Usage ≡ OutFault → ⊥
 usage_out is = cc
 
+append_none : (xs : List ℕ) → xs ≡ xs ++ []
+append_none [] = refl
+append_none (x ∷ xs) = ap (λ ys. x ∷ ys) (append_none xs)
+
 -- a count that is as it was
 kept : (fault : Status) (before now : ℕ) (s : Status) → (s ≡ fault → ⊥) → now ≡ before → WritesFailed fault before now s
-kept fault before now s not same = record { cause = λ is. absurd (not is); same = λ _. same }
+kept fault before now s not same = record { cause = λ is. absurd (not is); same = λ _. same; later = omega (arith, same) }
 
 module _ {M I C W O : Type 0} (outside : MediaOutside M) (sink : SinkOutside W) (out : SinkOutside O) (old : World M I C W O) (new : Outcome M I C W O) where
+  -- ---- what is no export
+
+  not_played : (asked : Option Command) → IsNoExport asked → new.journal ≡ None → PlaysTheExport outside sink old asked new
+  not_played (Some (ToExport e)) other journal = absurd other
+  not_played (Some (ToMigrate name)) other journal = journal
+  not_played (Some (ToCheck name)) other journal = journal
+  not_played None other journal = journal
+
+  not_alone : (asked : Option Command) → IsNoExport asked → new.journal ≡ None → PlaysAnExport sink old asked new
+  not_alone (Some (ToExport e)) other journal = absurd other
+  not_alone (Some (ToMigrate name)) other journal = journal
+  not_alone (Some (ToCheck name)) other journal = journal
+  not_alone None other journal = journal
+
+  no_rings : (asked : Option Command) → IsNoExport asked → new.journal ≡ None → new.rings.items ≡ [] → new.acks ≡ None → PlaysAsAsked old asked new
+  no_rings (Some (ToExport e)) other journal rings acks = absurd other
+  no_rings (Some (ToMigrate name)) other journal rings acks = record { journal = journal; rings = rings; acks = acks }
+  no_rings (Some (ToCheck name)) other journal rings acks = record { journal = journal; rings = rings; acks = acks }
+  no_rings None other journal rings acks = record { journal = journal; rings = rings; acks = acks }
+
+  -- what reads the media and writes to out alone
+  pub of_unplayed : (asked : Option Command) → IsNoExport asked → (media : M) (o : O) (s : Status) → (outside.tells → EndsAsAsked outside old asked s) → IsStatusOf asked s → (s ≡ MasterFault → ⊥) →
+      WritesItsOwn out (IsOwnText outside old.media asked) old.out o s → ReadsFailed (outside.read_faults old.media) (outside.read_faults media) s → WritesFailed OutFault (out.faults old.out) (out.faults o) s →
+      OnlyReads outside old.media media → new.status ≡ s → new.world ≡ record old { media = media; out = o } → new.journal ≡ None → new.rings.items ≡ [] → new.acks ≡ None →
+      CarriesOut outside sink out old asked new
+  of_unplayed asked other media o s ends of not_master own reads writes only says world journal rings acks =
+      let master_is : new.world.master ≡ old.master = ap (λ (w : World M I C W O). w.master) world in
+      let media_is : new.world.media ≡ media = ap (λ (w : World M I C W O). w.media) world in
+      let out_is : new.world.out ≡ o = ap (λ (w : World M I C W O). w.out) world in
+      record {
+        ends = λ t. subst (EndsAsAsked outside old asked) (sym says) (ends t);
+        status = subst (IsStatusOf asked) (sym says) of;
+        export = λ t. not_played asked other journal;
+        alone = not_alone asked other journal;
+        own = subst (λ (q : O). WritesItsOwn out (IsOwnText outside old.media asked) old.out q new.status) (sym out_is) (subst (WritesItsOwn out (IsOwnText outside old.media asked) old.out o) (sym says) own);
+        silent = λ some. absurd (some other);
+        reads = subst (λ (m : M). ReadsFailed (outside.read_faults old.media) (outside.read_faults m) new.status) (sym media_is) (subst (ReadsFailed (outside.read_faults old.media) (outside.read_faults media)) (sym says) reads);
+        writes = kept MasterFault (sink.faults old.master) (sink.faults new.world.master) new.status (λ is. not_master (sym says ∙ is)) (ap (λ (m : W). sink.faults m) master_is);
+        replies = subst (λ (q : O). WritesFailed OutFault (out.faults old.out) (out.faults q) new.status) (sym out_is) (subst (WritesFailed OutFault (out.faults old.out) (out.faults o)) (sym says) writes);
+        still_open = λ still. subst AllStayOpen (sym rings) plays.none_open;
+        played = no_rings asked other journal rings acks;
+        files = subst (λ (m : M). OnlyReads outside old.media m) (sym media_is) only;
+        input = ap (λ (w : World M I C W O). w.input) world;
+        control = ap (λ (w : World M I C W O). w.control) world;
+        unplayed = λ _. master_is;
+      }
+
   -- the words are no command
-  pub no_command : new.status ≡ Usage → new.world ≡ old → new.journal ≡ None → new.rings.items ≡ [] → new.acks ≡ None → Does outside sink out old None new
-  no_command says world journal rings acks = record {
-    ends = λ t. says;
-    status = says;
-    export = λ t. journal;
-    alone = journal;
-    migrate = ap (λ (w : World M I C W O). w.out) world;
-    complete = λ t. tt;
-    causes = record {
-      reads = status.quiet (outside.read_faults old.media) (outside.read_faults new.world.media) new.status (ap (λ (w : World M I C W O). outside.read_faults w.media) world) (λ is. usage_read (sym says ∙ is));
-      writes = kept MasterFault (sink.faults old.master) (sink.faults new.world.master) new.status (λ is. usage_master (sym says ∙ is)) (ap (λ (w : World M I C W O). sink.faults w.master) world);
-      replies = kept OutFault (out.faults old.out) (out.faults new.world.out) new.status (λ is. usage_out (sym says ∙ is)) (ap (λ (w : World M I C W O). out.faults w.out) world);
-      still_open = λ still. subst AllStayOpen (sym rings) plays.none_open;
-    };
-    played = record { journal = journal; rings = rings; acks = acks };
-    rest = record {
-      files = record { files = ap (λ (w : World M I C W O). outside.files w.media) world; other_count = ap (λ (w : World M I C W O). outside.write_faults w.media) world };
-      input = ap (λ (w : World M I C W O). w.input) world;
-      control = ap (λ (w : World M I C W O). w.control) world;
-      master = λ no. ap (λ (w : World M I C W O). w.master) world;
-      out = λ no. ap (λ (w : World M I C W O). w.out) world;
-    };
-  }
+  pub no_command : new.status ≡ Usage → new.world ≡ old → new.journal ≡ None → new.rings.items ≡ [] → new.acks ≡ None → CarriesOut outside sink out old None new
+  no_command says world = of_unplayed None tt old.media old.out Usage (λ t. refl) refl usage_master
+      (none_written out (IsOwnText outside old.media None) old.out old.out Usage usage_done usage_out refl)
+      (status.quiet (outside.read_faults old.media) (outside.read_faults old.media) Usage refl usage_read)
+      (kept OutFault (out.faults old.out) (out.faults old.out) Usage usage_out refl) (record { files = refl; other_count = refl }) says world
 
   -- ---- an export
 
-  pub of_export : (e : Export) → Exports outside sink (plan_of_export (outside.files old.media) e) e old new → Does outside sink out old (Some (ToExport e)) new
+  -- it writes nothing to out
+  nothing_said : (e : Export) → (new.status ≡ OutFault → ⊥) → new.world.out ≡ old.out → WritesItsOwn out (IsOwnText outside old.media (Some (ToExport e))) old.out new.world.out new.status
+  nothing_said e not_out same = record {
+    done = λ _. ([], refl, record { held = λ t. ap (λ (o : O). out.held o) same ∙ append_none (out.held old.out); fine = ap (λ (o : O). out.faults o) same });
+    cut_off = λ is. absurd (not_out is);
+    nothing = λ _ _. same;
+  }
+
+  pub of_export : (e : Export) → Exports outside sink (plan_of_export (outside.files old.media) e) e old new → CarriesOut outside sink out old (Some (ToExport e)) new
   of_export e d = record {
     ends = d.ends;
     status = d.status;
     export = d.export;
     alone = d.alone;
-    migrate = d.rest.out;
-    complete = λ t ok reads writes. status.completes MasterFault (plan_of_export (outside.files old.media) e) new.status (outside.read_faults old.media) (outside.read_faults new.world.media)
-        (sink.faults old.master) (sink.faults new.world.master) (d.ends t) ok reads writes d.reads d.writes;
-    causes = record {
-      reads = d.reads;
-      writes = d.writes;
-      replies = kept OutFault (out.faults old.out) (out.faults new.world.out) new.status (status.export_not_out new.status d.status) (ap (λ (o : O). out.faults o) d.rest.out);
-      still_open = d.still_open;
-    };
+    own = nothing_said e (status.export_not_out new.status d.status) d.rest.out;
+    silent = λ _. d.rest.out;
+    reads = d.reads;
+    writes = d.writes;
+    replies = kept OutFault (out.faults old.out) (out.faults new.world.out) new.status (status.export_not_out new.status d.status) (ap (λ (o : O). out.faults o) d.rest.out);
+    still_open = d.still_open;
     played = d.played;
-    rest = record { files = d.only_reads; input = d.rest.input; control = d.rest.control; master = λ no. absurd no; out = λ no. d.rest.out };
+    files = d.only_reads;
+    input = d.rest.input;
+    control = d.rest.control;
+    unplayed = λ other. absurd other;
   }
 
   -- what is asked for isn't opened
   pub not_opened : (e : Export) (why : Unopened) (media : M) → (outside.tells → Refuses (plan_of_export (outside.files old.media) e) why) → OnlyReads outside old.media media →
       Caused {A = Unit {0}} outside old.media media (Err why) → new.status ≡ status_of why → new.world ≡ record old { media = media } → new.journal ≡ None → new.rings.items ≡ [] → new.acks ≡ None →
-      Does outside sink out old (Some (ToExport e)) new
+      CarriesOut outside sink out old (Some (ToExport e)) new
   not_opened e why media refuses only cause says world journal rings acks = of_export e
       (plays.unplayed outside sink (plan_of_export (outside.files old.media) e) e why old (record old { media = media }) media refuses refl only cause new says world journal rings acks)
-
-  -- ---- a migrate
-
-  pub of_migrate : (name : List ℕ) (media : M) (o : O) (s : Status) → (outside.tells → EndsWith OutFault (read_session (outside.files old.media name)) s) → IsOfMigrate s →
-      IsMigrated outside out name old.media old.out o s → ReadsFailed (outside.read_faults old.media) (outside.read_faults media) s → WritesFailed OutFault (out.faults old.out) (out.faults o) s →
-      OnlyReads outside old.media media → new.status ≡ s → new.world ≡ record old { media = media; out = o } → new.journal ≡ None → new.rings.items ≡ [] → new.acks ≡ None →
-      Does outside sink out old (Some (ToMigrate name)) new
-  of_migrate name media o s ends of got reads writes only says world journal rings acks =
-      let given : Open Session = read_session (outside.files old.media name) in
-      let ended : outside.tells → EndsWith OutFault given new.status = λ t. subst (EndsWith OutFault given) (sym says) (ends t) in
-      let is : IsOfMigrate new.status = subst IsOfMigrate (sym says) of in
-      let read : ReadsFailed (outside.read_faults old.media) (outside.read_faults new.world.media) new.status = subst (λ (w : World M I C W O). ReadsFailed (outside.read_faults old.media) (outside.read_faults w.media) new.status) (sym world)
-      (subst (ReadsFailed (outside.read_faults old.media) (outside.read_faults media)) (sym says) reads) in
-      let wrote : WritesFailed OutFault (out.faults old.out) (out.faults new.world.out) new.status = subst (λ (w : World M I C W O). WritesFailed OutFault (out.faults old.out) (out.faults w.out) new.status) (sym world)
-      (subst (WritesFailed OutFault (out.faults old.out) (out.faults o)) (sym says) writes) in
-      let master_is : new.world.master ≡ old.master = ap (λ (w : World M I C W O). w.master) world in
-      record {
-        ends = ended;
-        status = is;
-        export = λ t. journal;
-        alone = journal;
-        migrate = subst (λ (w : World M I C W O). IsMigrated outside out name old.media old.out w.out new.status) (sym world) (subst (IsMigrated outside out name old.media old.out o) (sym says) got);
-        complete = λ t ok still fine. status.completes OutFault given new.status (outside.read_faults old.media) (outside.read_faults new.world.media) (out.faults old.out) (out.faults new.world.out) (ended t) ok still fine read wrote;
-        causes = record {
-          reads = read;
-          writes = kept MasterFault (sink.faults old.master) (sink.faults new.world.master) new.status (status.migrate_not_master new.status is) (ap (λ (m : W). sink.faults m) master_is);
-          replies = wrote;
-          still_open = λ still. subst AllStayOpen (sym rings) plays.none_open;
-        };
-        played = record { journal = journal; rings = rings; acks = acks };
-        rest = record {
-          files = subst (λ (w : World M I C W O). OnlyReads outside old.media w.media) (sym world) only;
-          input = ap (λ (w : World M I C W O). w.input) world;
-          control = ap (λ (w : World M I C W O). w.control) world;
-          master = λ no. master_is;
-          out = λ no. absurd no;
-        };
-      }

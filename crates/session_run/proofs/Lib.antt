@@ -2,5 +2,7 @@
 pub mod SoundLemmas
 pub mod StatusLemmas
 pub mod PlayedLemmas
+pub mod OutLemmas
 pub mod DoesLemmas
+pub mod ReplyLemmas
 pub mod MigratedLemmas

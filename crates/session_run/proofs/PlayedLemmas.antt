@@ -1,6 +1,6 @@
 -- What an export does: one that plays, and one that doesn't.
 use Rattle.std.proofs.lemmas.Bool.{true≢false}
-use Rattle.std.proofs.Common.{◌≡◌, ℕ, ◌⊎◌, ◌++◌, List, [], refl, sym, ap, subst, ◌∙◌, inl, inr, arith}
+use Rattle.std.proofs.Common.{◌≡◌, ℕ, ◌≤◌, ◌⊎◌, ◌++◌, List, [], refl, sym, ap, subst, ◌∙◌, inl, inr, arith}
 use Rattle.std.specs.Prelude.{true, false, Option, Some, None, IsSome, IfSome, Result, Ok, Err, slice_get}
 use Rattle.std.proofs.lemmas.Option.{slice_get_within}
 use Rattle.sound_model.specs.Regions.{Sounds}
@@ -42,13 +42,16 @@ not_there (Ok o) P = tt
 not_there (Err w) P = tt
 
 -- what is so of each journal
-some_played : (journal : Option (Listed Entry)) (P Q : List engine.Entry → Type 0) → ((es : List engine.Entry) → P es → Q es) →
+pub some_played : (journal : Option (Listed Entry)) (P Q : List engine.Entry → Type 0) → ((es : List engine.Entry) → P es → Q es) →
     IfSome journal (λ j. P (seen_entries j.items)) → IfSome journal (λ j. Q (seen_entries j.items))
 some_played (Some journal) P Q goes is = goes (seen_entries journal.items) is
 some_played None P Q goes is = tt
 
 pub none_open : (t : ℕ) (r : TrackRings) → slice_get [] t ≡ Some r → r.plays.closed ≡ false
 none_open t r here = absurd (omega (arith, slice_get_within [] t r here))
+
+no_fewer : (before now : ℕ) → now ≡ before → before ≤ now
+no_fewer before now same = omega (arith, same)
 
 -- what is so of each plan and its entries
 pub where_played : (plan : Result Plan Wrong) (journal : Option (Listed Entry)) (P Q : Plan → List engine.Entry → Type 0) →
@@ -83,7 +86,7 @@ module _ {M I C W O : Type 0} (outside : MediaOutside M) (sink : SinkOutside W) 
     export = λ t. let P = IsExport outside sink old new in subst (λ j. WherePlayed plan j P) (sym journal) (not_there plan P);
     alone = let P : Option (Listed Entry) → Type 0 = λ o. IfSome o (λ j. IsOfSome sink old new e (seen_entries j.items)) in subst P (sym journal) tt;
     reads = subst (λ (w : World M I C W O). ReadsFailed (outside.read_faults old.media) (outside.read_faults w.media) new.status) (sym world_is) (subst (ReadsFailed (outside.read_faults old.media) (outside.read_faults media)) (sym status_is) cause);
-    writes = record { cause = λ fault. absurd (not_master (sym status_is ∙ fault)); same = λ not. ap (λ (w : World M I C W O). sink.faults w.master) world_is };
+    writes = record { cause = λ fault. absurd (not_master (sym status_is ∙ fault)); same = λ not. ap (λ (w : World M I C W O). sink.faults w.master) world_is; later = no_fewer (sink.faults old.master) (sink.faults new.world.master) (ap (λ (w : World M I C W O). sink.faults w.master) world_is) };
     still_open = λ still. subst AllStayOpen (sym rings) none_open;
     played = record {
       only = λ some. absurd (true≢false (sym (subst IsSome journal some)));

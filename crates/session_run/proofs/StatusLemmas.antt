@@ -1,7 +1,8 @@
 -- Statuses and the counts that they are tied to.
-use Rattle.std.proofs.Common.{◌≡◌, ℕ, ◌<◌, ◌⊎◌, ◌↔◌, inl, inr, refl, sym, ap, subst, ◌∙◌, arith}
+use Rattle.std.proofs.Common.{◌≡◌, ℕ, ◌<◌, ◌≤◌, ◌⊎◌, ◌↔◌, inl, inr, refl, sym, ap, subst, ◌∙◌, arith}
 use Rattle.std.specs.Prelude.{Bool, true, false, Option, Some, None, IsOk, Ok, Err}
 use Rattle.std.proofs.lemmas.Bool.{true≢false}
+use Rattle.ses_io.specs.Faults.{risen}
 use Rattle.ses_io.specs.Outside.{MediaOutside}
 use Rattle.cycle_journal.specs.declared.status.Status.{Status}
 use Rattle.cycle_journal.specs.declared.status.Status.TheVariants.{Done, Usage, MasterFault, OutFault, NoMemory}
@@ -10,12 +11,12 @@ use Rattle.engine_core.specs.RunInvariant.{only_noted}
 use Rattle.engine_core.specs.Serial.{IsCounted}
 use Rattle.session_opening.specs.Answers.{Caused, Refuses, unopened as opening}
 use Rattle.session_opening.specs.Plan.{Open}
-use Rattle.session_opening.specs.Words.{Command, ToExport, ToMigrate}
+use Rattle.session_opening.specs.Words.{Command, ToExport, ToMigrate, ToCheck}
 use Rattle.session_opening.specs.declared.unopened.Unopened.{Unopened}
 use Rattle.session_opening.specs.declared.unopened.Unopened.TheVariants.{Session, NotBuilt, Source, ReadFault}
 use Rattle.session_opening.specs.declared.unopened.Unopened.TheVariants as unopened
 use Rattle.session_run.specs.Exported.{IsStill}
-use Rattle.session_run.specs.Status.{EndsWith, IsOfExport, IsOfMigrate, IsStatusOf, ReadsFailed, WritesFailed, status_at_end, status_of}
+use Rattle.session_run.specs.Status.{EndsWith, IsOfCheck, IsOfExport, IsOfMigrate, IsStatusOf, ReadsFailed, WritesFailed, status_at_end, status_of}
 
 -- what stood still didn't rise
 pub no_rise : (before now : ℕ) (rose : Bool) → IsCounted before now rose → IsStill before now → rose ≡ false
@@ -93,10 +94,22 @@ migrate_not_usage s (inl done) is = cc
 migrate_not_usage s (inr (inl fault)) is = cc
 migrate_not_usage s (inr (inr (why, by))) is = not_of (opening why) Usage refl (sym by ∙ is)
 
+-- nor does a check
+pub check_not_master : (s : Status) → IsOfCheck s → s ≡ MasterFault → ⊥
+check_not_master s (inl done) is = cc
+check_not_master s (inr (inl fault)) is = cc
+check_not_master s (inr (inr (why, form, by))) is = not_of why MasterFault refl (sym by ∙ is)
+
+pub check_not_usage : (s : Status) → IsOfCheck s → s ≡ Usage → ⊥
+check_not_usage s (inl done) is = cc
+check_not_usage s (inr (inl fault)) is = cc
+check_not_usage s (inr (inr (why, form, by))) is = not_of why Usage refl (sym by ∙ is)
+
 -- only no command ends so
 pub usage_only : (asked : Option Command) (s : Status) → IsStatusOf asked s → (s ≡ Usage) ↔ (asked ≡ None)
 usage_only (Some (ToExport e)) s is = (λ usage. absurd (export_not_usage s is usage), λ none. absurd cc)
 usage_only (Some (ToMigrate name)) s is = (λ usage. absurd (migrate_not_usage s is usage), λ none. absurd cc)
+usage_only (Some (ToCheck name)) s is = (λ usage. absurd (check_not_usage s is usage), λ none. absurd cc)
 usage_only None s is = (λ usage. refl, λ none. is)
 
 -- ---- an export that is played
@@ -138,16 +151,16 @@ module _ (read master : Bool) (s : Status) (of : IsOf read master s) where
   pub writes_of : (before now : ℕ) → IsCounted before now master → WritesFailed MasterFault before now s
   writes_of before now = by read master of where
     by : (r m : Bool) → IsOf r m s → IsCounted before now m → WritesFailed MasterFault before now s
-    by r true o counted = record { cause = λ _. counted.raised refl; same = λ not. absurd (not (o.master_failed refl)) }
-    by true false o counted = record { cause = λ is. absurd (let fault = o.read_failed refl refl in cc); same = λ _. counted.kept refl }
-    by false false o counted = record { cause = λ is. absurd (let fine = o.fine refl refl in cc); same = λ _. counted.kept refl }
+    by r true o counted = record { cause = λ _. counted.raised refl; same = λ not. absurd (not (o.master_failed refl)); later = counted.later }
+    by true false o counted = record { cause = λ is. absurd (let fault = o.read_failed refl refl in cc); same = λ _. counted.kept refl; later = counted.later }
+    by false false o counted = record { cause = λ is. absurd (let fine = o.fine refl refl in cc); same = λ _. counted.kept refl; later = counted.later }
 
 -- ---- completeness
 
-pub completes : {A : Type 0} (fault : Status) (given : Open A) (s : Status) (a b c d : ℕ) → EndsWith fault given s → IsOk given → IsStill a b → IsStill c d → ReadsFailed a b s → WritesFailed fault c d s →
+pub completes : {A : Type 0} (fault : Status) (given : Open A) (s : Status) (a b c d : ℕ) → EndsWith fault given s → IsOk given → IsStill a b → IsStill c d → ReadsFailed a b s → (s ≡ fault → risen c ≤ d) →
     (s ≡ Done) ⊎ (s ≡ NoMemory)
 completes fault (Ok o) s a b c d (inl done) ok reads writes rf wf = inl done
-completes fault (Ok o) s a b c d (inr (inl failed)) ok reads writes rf wf = absurd (omega (arith, wf.cause failed, writes.same, writes.short))
+completes fault (Ok o) s a b c d (inr (inl failed)) ok reads writes rf wf = absurd (omega (arith, wf failed, writes.same, writes.short))
 completes fault (Ok o) s a b c d (inr (inr (inl failed))) ok reads writes rf wf = absurd (omega (arith, rf.cause failed, reads.same, reads.short))
 completes fault (Ok o) s a b c d (inr (inr (inr none))) ok reads writes rf wf = inr none
 completes fault (Err w) s a b c d ends ok reads writes rf wf = absurd (true≢false (sym ok))

@@ -2,4 +2,7 @@
 pub mod Status
 pub mod Exported
 pub mod Migrated
+pub mod Checked
+pub mod Replied
 pub mod Headline
+pub mod Carried

@@ -14,7 +14,7 @@ use Rattle.session_opening.specs.declared.unopened.Unopened.TheVariants as unope
 use Rattle.session_opening.specs.Answers as answers
 use Rattle.session_opening.specs.Plan as plan
 use Rattle.session_opening.specs.Plan.{Open, Wrong}
-use Rattle.session_opening.specs.Words.{Command, ToExport, ToMigrate}
+use Rattle.session_opening.specs.Words.{Command, ToExport, ToMigrate, ToCheck}
 use Rattle.session_run.specs.declared.outcome.Outcome.{Outcome}
 
 -- ---- by the words and the files
@@ -48,10 +48,15 @@ IsOfExport s = (s ≡ Done) ⊎ ((s ≡ MasterFault) ⊎ ((why : Unopened) × (s
 abbrev pub IsOfMigrate : Status → Type 0
 IsOfMigrate s = (s ≡ Done) ⊎ ((s ≡ OutFault) ⊎ ((why : NoSession) × (s ≡ status_of (answers.unopened why))))
 
+-- the same of a check: it takes each form of session too, and opens its sources
+abbrev pub IsOfCheck : Status → Type 0
+IsOfCheck s = (s ≡ Done) ⊎ ((s ≡ OutFault) ⊎ ((why : Unopened) × (why ≢ unopened.NotBuilt) × (s ≡ status_of why)))
+
 -- the same of what was asked for, which may be no command
 abbrev pub IsStatusOf : Option Command → Status → Type 0
 IsStatusOf (Some (ToExport e)) s = IsOfExport s
 IsStatusOf (Some (ToMigrate name)) s = IsOfMigrate s
+IsStatusOf (Some (ToCheck name)) s = IsOfCheck s
 IsStatusOf None s = s ≡ Usage
 
 -- of several faults the first in this order
@@ -74,6 +79,17 @@ pub record WritesFailed (fault : Status) (before now : ℕ) (s : Status) : Type 
   pub cause : s ≡ fault → risen before ≤ now
   -- at every other status it is as it was
   pub same : s ≢ fault → now ≡ before
+  -- and it never falls
+  pub later : before ≤ now
+
+-- out's count of failed writes: the line of an error may fail too, and then the status stays
+pub record RepliesFailed (before now : ℕ) (s : Status) : Type 0 where
+  -- OutFault comes only where it rose
+  pub cause : s ≡ OutFault → risen before ≤ now
+  -- at Done it is as it was
+  pub same : s ≡ Done → now ≡ before
+  -- and it never falls
+  pub later : before ≤ now
 
 -- Whether an export was played, and what there is then.
 pub record HasPlayed {M I C W O : Type 0} (old : World M I C W O) (new : Outcome M I C W O) : Type 0 where
@@ -98,4 +114,5 @@ pub record HasNotPlayed {M I C W O : Type 0} (new : Outcome M I C W O) : Type 0 
 abbrev pub PlaysAsAsked : {M I C W O : Type 0} → World M I C W O → Option Command → Outcome M I C W O → Type 0
 PlaysAsAsked old (Some (ToExport e)) new = HasPlayed old new
 PlaysAsAsked old (Some (ToMigrate name)) new = HasNotPlayed new
+PlaysAsAsked old (Some (ToCheck name)) new = HasNotPlayed new
 PlaysAsAsked old None new = HasNotPlayed new

@@ -2,7 +2,7 @@
 ghost use Rattle.std.specs.Prelude.{◌≤◌, Some};
 ghost use Rattle.session_opening.specs.Spoken.{export_view};
 ghost use Rattle.session_opening.specs.Words.{ToExport};
-ghost use Rattle.session_run.specs.Headline.{Does};
+ghost use Rattle.session_run.specs.Carried.{CarriesOut};
 
 use crate::ending::{status_at_end, status_of};
 use crate::outcome::{Outcome, played, unplayed};
@@ -20,7 +20,7 @@ pub(crate) fn export<M: Media, I: Source, C: Source, W: Sink, O: Sink>(
 ) -> Outcome<M, I, C, W, O>
     requires some { 1 ≤ asked.now.cycles }
     requires few { asked.now.cycles ≤ 100000 }
-    ensures { Does M.outside W.outside O.outside world
+    ensures { CarriesOut M.outside W.outside O.outside world
         (Some (ToExport (export_view asked.now))) result }
 {
     let mut world = world;

@@ -1,11 +1,14 @@
 //! The top call: `run` does all that the program does, over a world of its caller's.
 #![tactic(auto)]
 
+mod answer;
+mod check;
 mod ending;
 mod export;
 mod migrate;
 mod outcome;
 mod top;
+mod writing;
 
 pub use audio_source::FileRefusal;
 pub use cycle_journal::{InputRefusal, Status};

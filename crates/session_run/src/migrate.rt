@@ -4,13 +4,15 @@ ghost use Rattle.ses_io.specs.Outside.{OnlyReads};
 ghost use Rattle.session_opening.specs.Plan.{read_session};
 ghost use Rattle.session_opening.specs.Words.{ToMigrate};
 ghost use Rattle.session_run.specs.Status.{EndsWith, IsOfMigrate, ReadsFailed, WritesFailed};
-ghost use Rattle.session_run.specs.Migrated.{IsMigrated};
-ghost use Rattle.session_run.specs.Headline.{Does};
+ghost use Rattle.session_run.specs.Migrated.{IsMigratedText};
+ghost use Rattle.session_run.specs.Replied.{WritesItsOwn};
+ghost use Rattle.session_run.specs.Carried.{CarriesOut};
 
 use crate::ending::status_of;
 use crate::outcome::{Outcome, unplayed};
+use crate::writing::write_text;
 use cycle_journal::Status;
-use ses_io::{Media, Sink, World, write_all};
+use ses_io::{Media, Sink, World};
 use session_opening::{Unopened, read_session};
 use session_text::text_of_session;
 use std::alloc::Global;
@@ -20,7 +22,8 @@ fn rewrite<M: Media, O: Sink>(alloc: Global, media: &mut M, out: &mut O, name: &
     ensures ends { M.outside.tells
         → EndsWith Status.OutFault (read_session (M.outside.files media.old name.now)) result }
     ensures status { IsOfMigrate result }
-    ensures written { IsMigrated M.outside O.outside name.now media.old out.old out.new result }
+    ensures written { WritesItsOwn O.outside (IsMigratedText M.outside media.old name.now)
+        out.old out.new result }
     ensures reads { ReadsFailed (M.outside.read_faults media.old)
         (M.outside.read_faults media.new) result }
     ensures writes { WritesFailed Status.OutFault (O.outside.faults out.old)
@@ -34,10 +37,7 @@ fn rewrite<M: Media, O: Sink>(alloc: Global, media: &mut M, out: &mut O, name: &
     let Ok(text) = text_of_session(alloc, &session) else {
         return Status::NoMemory;
     };
-    match write_all(out, text.as_slice()) {
-        Ok(()) => Status::Done,
-        Err(_) => Status::OutFault,
-    }
+    write_text(out, text.as_slice())
 }
 
 /// Reads the session of the file and writes it to out.
@@ -46,7 +46,7 @@ pub(crate) fn migrate<M: Media, I, C, W: Sink, O: Sink>(
     name: &str,
     world: World<M, I, C, W, O>,
 ) -> Outcome<M, I, C, W, O>
-    ensures { Does M.outside W.outside O.outside world (Some (ToMigrate name.now)) result }
+    ensures { CarriesOut M.outside W.outside O.outside world (Some (ToMigrate name.now)) result }
 {
     let mut world = world;
     let status = rewrite(alloc, &mut world.media, &mut world.out, name);

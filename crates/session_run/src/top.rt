@@ -1,14 +1,13 @@
 //! The top call: the words are read, and what they ask for is done with the world.
 ghost use Rattle.std.specs.Prelude.{◌≡◌, ◌↔◌, None};
 ghost use Rattle.session_run.specs.Status.{IsStatusOf, PlaysAsAsked};
-ghost use Rattle.session_run.specs.Headline.{asked_by, EndsAsAsked, PlaysTheExport, PlaysAnExport, Migrates, IsComplete, HasCauses, LeavesTheRest};
+ghost use Rattle.session_run.specs.Headline.{asked_by, EndsAsAsked, PlaysTheExport, PlaysAnExport, RepliesAsAsked, IsComplete, HasCauses, LeavesTheRest};
 
-use crate::export::export;
-use crate::migrate::migrate;
-use crate::outcome::{Outcome, unplayed};
+use crate::answer::answer;
+use crate::outcome::Outcome;
 use cycle_journal::Status;
 use ses_io::{Media, Sink, Source, World};
-use session_opening::{Command, command};
+use session_opening::command;
 use std::alloc::Global;
 use std::sync::Wait;
 use std::thread::Threads;
@@ -29,21 +28,18 @@ where
     W: Sink + Send,
     O: Sink + Send,
     ensures usage { (result.status ≡ Status.Usage) ↔ (asked_by words.now ≡ None) }
-    ensures ends { M.outside.tells → EndsAsAsked M.outside world (asked_by words.now) result }
+    ensures ends { M.outside.tells → EndsAsAsked M.outside world (asked_by words.now) result.status }
     ensures status { IsStatusOf (asked_by words.now) result.status }
     ensures export { M.outside.tells
         → PlaysTheExport M.outside W.outside world (asked_by words.now) result }
     ensures alone { PlaysAnExport W.outside world (asked_by words.now) result }
-    ensures migrate { Migrates M.outside O.outside world (asked_by words.now) result }
+    ensures out { RepliesAsAsked M.outside O.outside world (asked_by words.now) result }
     ensures complete { M.outside.tells
         → IsComplete M.outside W.outside O.outside world (asked_by words.now) result }
     ensures causes { HasCauses M.outside W.outside O.outside world result }
     ensures played { PlaysAsAsked world (asked_by words.now) result }
-    ensures rest { LeavesTheRest M.outside world (asked_by words.now) result.world }
+    ensures rest { LeavesTheRest M.outside world (asked_by words.now)
+        result.status result.world }
 {
-    match command(words) {
-        Some(Command::Export(asked)) => export(alloc, &asked, world),
-        Some(Command::Migrate { session }) => migrate(alloc, session, world),
-        None => unplayed(alloc, Status::Usage, world),
-    }
+    answer(alloc, command(words), world)
 }

@@ -1,8 +1,13 @@
-//! Values from outside for what is made of a session: orders of routes, places and windows.
+//! Values from outside for what is made of a session: orders of routes, places and windows,
+//! control lines and refusals.
 #![tactic(auto)]
 
 #[cfg(test)]
+mod lines;
+#[cfg(test)]
 mod places;
+#[cfg(test)]
+mod refusals;
 #[cfg(test)]
 mod route_orders;
 #[cfg(test)]

@@ -230,7 +230,9 @@ fn blocks_are_clipped_scaled_and_filed(rt: HostRuntime) {
         assert!(rt; clips(n, -NEAR, LOWEST));
         assert!(rt; clips(n, -2_147_483_648, LOWEST));
         assert!(rt; scales_each(n, -1, 32_768, -1));
+        assert!(rt; scales_each(n, LOUDEST, 65_536, LOUDEST));
         assert!(rt; scales_each(n, LOUDEST, 65_537, LOUDEST));
+        assert!(rt; scales_each(n, LOWEST, 65_536, LOWEST));
         assert!(rt; scales_each(n, LOWEST, 262_144, LOWEST));
         assert!(rt; scales_each(n, 8_388_607, 262_144, 33_554_428));
         assert!(rt; scales(n, -3, gain(32_768), -2));

@@ -7,3 +7,4 @@ pub mod Formats
 pub mod Extensions
 pub mod LaneLemmas
 pub mod SplitLemmas
+pub mod WideLemmas

@@ -58,7 +58,7 @@ written_more f out i v h fits e so_far =
 abbrev pub IsBytes : List ℕ → Type 0
 IsBytes bytes = (i : ℕ) → get_or bytes i 0 < 256
 
-dropped : (bytes : List ℕ) → IsBytes bytes → (n i : ℕ) → get_or (drop n bytes) i 0 < 256
+pub dropped : (bytes : List ℕ) → IsBytes bytes → (n i : ℕ) → get_or (drop n bytes) i 0 < 256
 dropped bytes fits n i = rw (get_or-drop n bytes i 0) (fits (n + i))
 
 inside_8 : (n : ℕ) → n < 256 → IsInside (inner 8 (pos n))

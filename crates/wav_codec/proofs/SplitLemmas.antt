@@ -1,12 +1,14 @@
 -- Samples one after another are the first of them, and those of what is left.
-use Rattle.std.proofs.Common.{◌≡◌, ℕ, zero, suc, ◌+◌, ◌-◌, ◌*◌, ◌<◌, ◌≤◌, ℤ, refl, sym, ap, ◌∙◌, arith, List, [], ◌∷◌, ◌++◌, length, map, take, drop}
+use Rattle.std.proofs.Common.{◌≡◌, ℕ, zero, suc, ◌+◌, ◌-◌, ◌*◌, ◌<◌, ◌≤◌, ℤ, refl, sym, ap, ◌∙◌, arith, List, [], ◌∷◌, ◌++◌, length, map, take, drop, All, pos, negsuc, subst, rules, FitsSigned, w32, to_z, of_z}
 use Rattle.std.specs.List.{range_with_len}
 use Rattle.std.proofs.lemmas.List.{drop-drop, append_assoc, append-nil, take_all}
 use Rattle.std.proofs.lemmas.List.FromFn.{map-range_with_len_more}
 use Rattle.std.proofs.lemmas.Slice.{take-put_mid}
 use borrow.Rule.Slice.PartMut.{put_mid}
 use Rattle.sound_model.specs.Numbers.{sample_at}
-use Rattle.wav_codec.specs.Samples.{samples_of}
+use Rattle.std.proofs.lemmas.Int.{to_z-of_z, ints}
+use Rattle.wav_codec.specs.Samples.{samples_of, IsInside}
+use Rattle.wav_codec.proofs.Samples.{IsBytes, inside_of_24, dropped}
 
 split : (f g : ℕ → ℤ) (n m : ℕ) → ((i : ℕ) → i < m → f (n + i) ≡ g i) → map f (range_with_len 0 (n + m)) ≡ map f (range_with_len 0 n) ++ map g (range_with_len 0 m)
 split f g n zero same = let none : n + 0 ≡ n = omega arith in ap (λ k. map f (range_with_len 0 k)) none ∙ sym (append-nil (map f (range_with_len 0 n)))
@@ -50,3 +52,18 @@ all_others n k bytes out rest so_far others within same long =
   where
     sum : length out ≡ n + (length out - n)
     sum = omega arith
+
+-- samples that a file can hold stay as they are in lanes of 32 bits
+inside_fits : (v : ℤ) → IsInside v → FitsSigned w32 v
+inside_fits (pos n) h = let few : n < 2147483648 = omega (arith, ints, h.1) in search rules
+inside_fits (negsuc n) h = let few : n < 2147483648 = omega (arith, ints, h.0) in search rules
+
+pub lanes_same : (vs : List ℤ) → All IsInside vs → map (to_z w32) (map (of_z w32) vs) ≡ vs
+lanes_same [] all = refl
+lanes_same (v ∷ vs) all =
+    rw (to_z-of_z w32 v (inside_fits v (all 0 v (omega arith))))
+    (ap (λ us. v ∷ us) (lanes_same vs (λ k d h. all (suc k) d (omega (arith, h)))))
+
+pub four_same : (at : ℕ) (bytes : List ℕ) (vs : List ℤ) → IsBytes bytes → vs ≡ four_at at bytes → map (to_z w32) (map (of_z w32) vs) ≡ vs
+four_same at bytes vs fits e =
+    lanes_same vs (subst (All IsInside) (sym (e ∙ fours_are at bytes)) (inside_of_24 4 (drop at bytes) (dropped bytes fits at)))

@@ -5,6 +5,7 @@ ghost use Rattle.ses_units.specs.Bits.{bits_of};
 ghost use Rattle.sound_model.specs.Numbers.{sample_bytes};
 ghost use Rattle.sound_model.specs.Wav.{sound_bytes};
 
+use crate::sixteens::encode_24;
 use ses_units::{Bits, file_sample};
 
 /// Writes the bytes that a file of these bits has of these samples, which are at 24-bit scale.
@@ -30,27 +31,8 @@ fn encode_16(samples: &[i32], out: &mut [u8])
     }
 }
 
-fn encode_24(samples: &[i32], out: &mut [u8])
-    requires { length out.old ≡ length samples.now * 3 }
-    ensures { out.new ≡ sound_bytes 24 samples.now }
-{
-    for (i, v) in samples.iter().enumerate() {
-        let [low, middle, high] = bytes_24(*v);
-        out[3 * i] = low;
-        out[3 * i + 1] = middle;
-        out[3 * i + 2] = high;
-    }
-}
-
 fn bytes_16(v: i32) -> [u8; 2]
     ensures { result ≡ sample_bytes 16 v }
 {
     (file_sample(v, Bits::B16) as i16).to_le_bytes()
-}
-
-fn bytes_24(v: i32) -> [u8; 3]
-    ensures { result ≡ sample_bytes 24 v }
-{
-    let [low, middle, high, _] = file_sample(v, Bits::B24).to_le_bytes();
-    [low, middle, high]
 }

@@ -13,7 +13,7 @@ pub(crate) fn decode_24(bytes: &[u8], out: &mut [i32])
 {
     let fours = bytes.len().saturating_sub(4) / 12;
     for i in 0..fours {
-        out[4 * i..4 * i + 4].copy_from_slice(&four_samples(bytes, 12 * i));
+        four_samples(bytes, 12 * i).copy_to_slice(&mut out[4 * i..4 * i + 4]);
     }
     decode_24_singly(&bytes[12 * fours..], &mut out[4 * fours..]);
 }
@@ -31,7 +31,7 @@ fn decode_24_singly(bytes: &[u8], out: &mut [i32])
 
 // The four samples whose bytes begin at a place. Each is set above a byte of zeros and shifted down, which
 // keeps its sign.
-fn four_samples(bytes: &[u8], at: usize) -> [i32; 4]
+fn four_samples(bytes: &[u8], at: usize) -> i32x4
     requires { at + 16 ≤ length bytes.now }
     ensures { result ≡ sample_at 24 (drop at bytes.now) ∷ sample_at 24 (drop (at + 3) bytes.now)
         ∷ sample_at 24 (drop (at + 6) bytes.now) ∷ sample_at 24 (drop (at + 9) bytes.now) ∷ [] }
@@ -41,7 +41,7 @@ fn four_samples(bytes: &[u8], at: usize) -> [i32; 4]
         u8x16::splat(0),
         [16, 0, 1, 2, 16, 3, 4, 5, 16, 6, 7, 8, 16, 9, 10, 11],
     );
-    (i32x4::from_le_bytes(wide) >> i32x4::splat(8)).to_array()
+    i32x4::from_le_bytes(wide) >> i32x4::splat(8)
 }
 
 fn sample_24(triple: [u8; 3]) -> i32

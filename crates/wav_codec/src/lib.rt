@@ -10,6 +10,7 @@ mod fours;
 mod info;
 mod refusal;
 mod scan;
+mod sixteens;
 
 pub use canon::{canon_is_header_and_sound, header};
 pub use decoding::decode;

@@ -37,6 +37,7 @@ pub(crate) const PLAYED: &[Row] = &[
         bad_writes: &[],
         ends: Ends::Done,
         number: 0,
+        out: b"",
         master: SOURCE,
         states: ROLLS,
         notes: &[HEARD],
@@ -60,6 +61,7 @@ pub(crate) const PLAYED: &[Row] = &[
         bad_writes: &[],
         ends: Ends::Done,
         number: 0,
+        out: b"",
         master: &[
             RIFF,
             FORMAT,
@@ -77,6 +79,7 @@ pub(crate) const PLAYED: &[Row] = &[
         bad_writes: &[],
         ends: Ends::Done,
         number: 0,
+        out: b"",
         master: &[
             RIFF,
             FORMAT,
@@ -97,6 +100,7 @@ pub(crate) const PLAYED: &[Row] = &[
         bad_writes: &[],
         ends: Ends::Done,
         number: 0,
+        out: b"",
         master: &[
             b"RIFF\x2c\0\0\0WAVEfmt \x10\0\0\0",
             FORMAT,
@@ -137,6 +141,7 @@ pub(crate) const PLAYED: &[Row] = &[
         bad_writes: &[],
         ends: Ends::Done,
         number: 0,
+        out: b"",
         master: &[
             RIFF,
             FORMAT,
@@ -163,6 +168,7 @@ pub(crate) const PLAYED: &[Row] = &[
         bad_writes: &[],
         ends: Ends::Done,
         number: 0,
+        out: b"",
         master: SOURCE,
         states: ROLLS,
         notes: &[HEARD],
@@ -175,6 +181,7 @@ pub(crate) const PLAYED: &[Row] = &[
         bad_writes: &[],
         ends: Ends::ReadFault,
         number: 4,
+        out: b"error read-fault\n",
         master: &[RIFF, FORMAT, DATA, &[0; 16]],
         states: &[
             State::Seeking { track: 0, tail: 1 },
@@ -190,6 +197,7 @@ pub(crate) const PLAYED: &[Row] = &[
         bad_writes: &[3],
         ends: Ends::MasterFault,
         number: 7,
+        out: b"error master-fault\n",
         master: &[RIFF, FORMAT, DATA, &[0x64, 0, 0xc8, 0, 0x2c, 1, 0x90, 1]],
         states: &[FIRST],
         notes: &[HEARD],

@@ -20,8 +20,8 @@ pub(crate) enum Ends {
     NotBuilt,
 }
 
-/// What a run is given, and what it leaves: its status with its number, its master, and the states of its cycles, each with
-/// these notes.
+/// What a run is given, and what it leaves: its status with its number, its out and its master, and the states of its cycles,
+/// each with these notes.
 pub(crate) struct Row {
     pub(crate) words: &'static [&'static str],
     pub(crate) files: &'static [File],
@@ -29,6 +29,7 @@ pub(crate) struct Row {
     pub(crate) bad_writes: &'static [u64],
     pub(crate) ends: Ends,
     pub(crate) number: u8,
+    pub(crate) out: &'static [u8],
     pub(crate) master: &'static [&'static [u8]],
     pub(crate) states: &'static [State],
     pub(crate) notes: &'static [Note],

@@ -1,4 +1,4 @@
-use Rattle.std.proofs.Common.{◌≡◌, ℕ, ℤ, List, refl, pos, get_or, length, ◌∙◌, sym, ap, arith, rules, subst, FitsSigned, w32, w64, to_z, of_z}
+use Rattle.std.proofs.Common.{◌≡◌, ℕ, ℤ, List, refl, pos, get_or, length, ◌∙◌, sym, ap, arith, rules, subst, FitsSigned, w32, to_z, of_z}
 use Rattle.std.proofs.lemmas.Int.{to_z-of_z}
 use Rattle.std.proofs.lemmas.List.{length-map, get_or-map}
 use Rattle.sound_model.specs.Numbers.{scale, clip}
@@ -10,12 +10,11 @@ use Rattle.mix_kernel.proofs.clipping.scale_each.Goals as goal
 pub loop-i-preserved : goal.loop-i-preserved
 loop-i-preserved c =
     let f : ℕ → ℤ = λ k. clip (scale (get_or c.args.samples.now k (pos 0)) (get_or c.args.gains.now k 0)) in
-    let fits : FitsSigned w32 c.clip.result = search rules in
+    let fits : FitsSigned w32 c.clipped_sample.result = search rules in
     let item_fits : FitsSigned w32 (get_or c.args.samples.now c.loop-i.i (pos 0)) = search rules in
-    let scaled_fits : FitsSigned w64 c.scaled_sample.result = search rules in
-    written_more f c.args.out.now c.loop-i.out c.loop-i.i (to_z w32 (of_z w32 c.clip.result)) (omega arith)
-    (to_z-of_z w32 c.clip.result fits ∙ c.clip.ensures ∙ ap clip (to_z-of_z w64 c.scaled_sample.result scaled_fits ∙ c.scaled_sample.ensures.value
-    ∙ ap (λ s. scale s (get_or c.args.gains.now c.loop-i.i 0)) (to_z-of_z w32 (get_or c.args.samples.now c.loop-i.i (pos 0)) item_fits)))
+    written_more f c.args.out.now c.loop-i.out c.loop-i.i (to_z w32 (of_z w32 c.clipped_sample.result)) (omega arith)
+    (to_z-of_z w32 c.clipped_sample.result fits ∙ c.clipped_sample.ensures
+    ∙ ap (λ s. clip (scale s (get_or c.args.gains.now c.loop-i.i 0))) (to_z-of_z w32 (get_or c.args.samples.now c.loop-i.i (pos 0)) item_fits))
     c.loop-i.invariant
 
 pub returns : goal.returns

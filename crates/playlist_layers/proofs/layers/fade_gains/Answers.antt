@@ -5,8 +5,8 @@ use Rattle.sound_model.specs.Regions.{fade}
 use Rattle.session_model.specs.Region.{region_of}
 use Rattle.ramp_fixed.proofs.Parts.{ranged}
 use Rattle.ramp_fixed.proofs.FadeValues.{fade_within}
-use Rattle.playlist_layers.specs.Blocks.{spread}
-use Rattle.playlist_layers.proofs.Ranges.{spread_along, front_put}
+use Rattle.mix_kernel.specs.Blocks.{spread}
+use Rattle.mix_kernel.proofs.Ranges.{spread_along, front_put}
 use Rattle.playlist_layers.proofs.layers.fade_gains.Goals as goal
 
 pub returns-clause-gains : goal.returns-clause-gains

@@ -3,9 +3,8 @@ use Rattle.std.specs.Prelude.{ℤ, pos, cond, replicate}
 use Rattle.sound_model.specs.Regions.{Region, Sounds, fade}
 use Rattle.session_model.specs.Region.{region_of}
 use Rattle.session_model.specs.Frames.{sounds_of, interleaved}
-use Rattle.mix_kernel.specs.Blocks.{scaled_evenly, summed, laid_over}
-use Rattle.playlist_layers.specs.Blocks.{spread}
-use Rattle.playlist_layers.proofs.Ranges.{whole_frames}
+use Rattle.mix_kernel.specs.Blocks.{scaled_evenly, summed, laid_over, spread}
+use Rattle.mix_kernel.proofs.Ranges.{whole_frames}
 use Rattle.playlist_layers.proofs.LayerSteps.{faded_step, full_step}
 use Rattle.playlist_layers.proofs.layers.lay.Goals as goal
 use Rattle.playlist_layers.proofs.layers.lay.Given.{Over}

@@ -1,6 +1,7 @@
 use Rattle.std.proofs.Common.{◌≡◌, ◌∙◌, ap, sym, arith}
 use Rattle.mix_kernel.specs.Blocks.{scaled_evenly, laid_over}
-use Rattle.playlist_layers.proofs.Numbers.{goes_more, even_unity, even_clipped}
+use Rattle.mix_kernel.proofs.NearLemmas.{goes_more}
+use Rattle.playlist_layers.proofs.Numbers.{even_unity, even_clipped}
 use Rattle.playlist_layers.proofs.layers.lay_faded.Goals as goal
 
 pub returns-then-value-eq-UNITY-clause-sums : goal.returns-then-value-eq-UNITY-clause-sums

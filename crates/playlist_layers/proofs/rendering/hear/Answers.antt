@@ -8,7 +8,7 @@ use Rattle.playlist_layers.specs.Blocks.{heard_block}
 use Rattle.playlist_layers.specs.Reads.{HasSource}
 use Rattle.playlist_layers.specs.Spans.{CoversSpan, picked}
 use Rattle.playlist_layers.proofs.Places.{holds_at, holds_picked, no_places, one_picked}
-use Rattle.playlist_layers.proofs.Ranges.{whole_frames}
+use Rattle.mix_kernel.proofs.Ranges.{whole_frames}
 use Rattle.playlist_layers.proofs.Reading.{on_ok_both}
 use Rattle.playlist_layers.proofs.SpanLemmas.{no_sound, plain_heard}
 use Rattle.playlist_layers.proofs.rendering.hear.Goals as goal

@@ -11,7 +11,7 @@ use Rattle.playlist_layers.specs.Blocks.{heard_block}
 use Rattle.playlist_layers.specs.Spans.{SoundAlike, picked}
 use Rattle.layer_laws.proofs.SpanLemmas.{places_are_there}
 use Rattle.playlist_layers.proofs.MeetingLemmas.{meeting_alike}
-use Rattle.playlist_layers.proofs.Ranges.{whole_frames}
+use Rattle.mix_kernel.proofs.Ranges.{whole_frames}
 use Rattle.playlist_layers.proofs.SpanLemmas.{heard_alike, heard_track}
 use Rattle.playlist_layers.proofs.rendering.render.Goals as goal
 

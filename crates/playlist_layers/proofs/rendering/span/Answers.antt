@@ -4,7 +4,7 @@ use Rattle.sound_model.specs.Regions.{Sounds}
 use Rattle.session_model.specs.Frames.{sounds_of}
 use Rattle.session_model.specs.Region.{regions_of}
 use Rattle.playlist_layers.specs.Spans.{SoundAlike, picked}
-use Rattle.playlist_layers.proofs.Ranges.{whole_frames}
+use Rattle.mix_kernel.proofs.Ranges.{whole_frames}
 use Rattle.playlist_layers.proofs.SpanLemmas.{heard_alike}
 use Rattle.playlist_layers.proofs.rendering.span.Goals as goal
 

@@ -7,7 +7,7 @@ use Rattle.session_model.specs.Frames.{Told, sounds_of}
 use Rattle.session_model.specs.Region.{regions_of}
 use Rattle.playlist_layers.specs.Blocks.{heard_block}
 use Rattle.playlist_layers.specs.Spans.{picked}
-use Rattle.playlist_layers.proofs.Ranges.{whole_frames}
+use Rattle.mix_kernel.proofs.Ranges.{whole_frames}
 use Rattle.playlist_layers.proofs.Reading.{read_on, went}
 use Rattle.playlist_layers.proofs.SpanLemmas.{span_more}
 use Rattle.playlist_layers.proofs.rendering.spans.Goals as goal

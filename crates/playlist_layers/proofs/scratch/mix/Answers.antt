@@ -12,9 +12,9 @@ use Rattle.mix_kernel.specs.Blocks.{clipped}
 use Rattle.playlist_layers.specs.Blocks.{layer_block}
 use Rattle.playlist_layers.specs.Reads.{HasSource}
 use Rattle.playlist_layers.specs.Spans.{CoversSpan, picked}
-use Rattle.playlist_layers.proofs.Numbers.{near_more}
+use Rattle.mix_kernel.proofs.NearLemmas.{near_more}
 use Rattle.playlist_layers.proofs.Places.{region_at, holds_at, holds_picked, dropped}
-use Rattle.playlist_layers.proofs.Ranges.{whole_frames}
+use Rattle.mix_kernel.proofs.Ranges.{whole_frames}
 use Rattle.playlist_layers.proofs.Reading.{read_none, read_on, went}
 use Rattle.playlist_layers.proofs.SpanLemmas.{no_layers, layers_clipped, layer_more}
 use Rattle.playlist_layers.proofs.scratch.mix.Goals as goal

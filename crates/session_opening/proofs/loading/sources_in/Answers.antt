@@ -7,4 +7,4 @@ returns-in-Ok-clause-told g c = λ t. plan_found (g.M.Media.outside.files c.args
 
 pub returns-in-Err-File-clause-told : goal.returns-in-Err-File-clause-told
 returns-in-Err-File-clause-told g c = λ t. answers_first (g.M.Media.outside.files c.args.media.now) c.args.session.now.rate c.args.session.now.sources.items c.as_slice.result.now
-    c.in-Err-File.source c.in-Err-File.why c.in-Err-File.field-0 c.refused.result c.refused.ensures c.as_slice.ensures.items c.in-Err-File.field-0-is (c.in-Err-File.ensures.refused t)
+    c.in-Err-File.source c.in-Err-File.why c.in-Err-File.field-0 c.refused.result c.refused.ensures.value c.as_slice.ensures.items c.in-Err-File.field-0-is (c.in-Err-File.ensures.refused t)

@@ -1,4 +1,4 @@
-use Rattle.std.proofs.Common.{◌<◌, arith}
+use Rattle.std.proofs.Common.{◌<◌}
 use Rattle.std.proofs.lemmas.List.Elements.{All-same}
 use Rattle.session_model.specs.Region.{region_of}
 use Rattle.session_model.proofs.PlaylistLemmas.{All-with_region}

@@ -1,17 +1,26 @@
-use Rattle.std.proofs.Common.{◌≡◌, ℕ, ◌*◌, ◌+◌, ◌/◌, ◌-◌, ℤ, sym, ap, subst, ◌∙◌, arith, List, length, take, drop}
-use Rattle.std.proofs.lemmas.List.{length-take, length-drop, take_all}
+use Rattle.std.proofs.Common.{◌≡◌, ℕ, ◌*◌, ◌+◌, ◌/◌, ◌-◌, ℤ, sym, ap, subst, ◌∙◌, arith, List, length, map, take, drop, to_z, of_z, w32}
+use Rattle.std.proofs.lemmas.List.{length-take, length-take-le, length-drop, take_all}
+use Rattle.std.proofs.lemmas.Simd.{put_chunk_whole}
+use Rattle.std.specs.Simd.Lanes.{put_chunk}
 use Rattle.std.proofs.lemmas.List.FromFn.{length-map-range_with_len}
 use borrow.Rule.Slice.PartMut.{same_len_mid}
 use Rattle.sound_model.specs.Numbers.{sample_at}
 use Rattle.wav_codec.specs.Samples.{samples_of}
-use Rattle.wav_codec.proofs.SplitLemmas.{four_at, four_more, all_others}
+use Rattle.wav_codec.proofs.SplitLemmas.{four_at, four_more, four_same, all_others}
 use Rattle.wav_codec.proofs.fours.decode_24.Goals as goal
 
 pub loop-i-preserved : goal.loop-i-preserved
 loop-i-preserved c =
     let place : 12 * c.loop-i.i ≡ 4 * c.loop-i.i * 3 = omega arith in
-    four_more (4 * c.loop-i.i) (4 * (c.loop-i.i + 1)) _ c.args.bytes.now c.loop-i.out c.copy_from_slice.new.self c.loop-i.invariant
-    (c.copy_from_slice.ensures.after ∙ c.four_samples.ensures ∙ ap (λ at. four_at at c.args.bytes.now) place) (omega arith) (omega arith)
+    let n : ℕ = 4 * c.loop-i.i in
+    let k : ℕ = 4 * c.loop-i.i + 4 - 4 * c.loop-i.i in
+    let out : List ℤ = c.loop-i.out in
+    let four : List ℤ = map (to_z w32) (map (of_z w32) c.four_samples.result) in
+    let same : four ≡ c.four_samples.result = four_same (12 * c.loop-i.i) c.args.bytes.now c.four_samples.result (λ i. omega (arith, c.type_inv.bytes i)) c.four_samples.ensures in
+    let count : length four ≡ 4 = ap length (same ∙ c.four_samples.ensures) in
+    let room : length (take k (drop n out)) ≡ length four = length-take-le k (drop n out) (omega (arith, length-drop n out)) ∙ omega (arith, count) in
+    four_more n (4 * (c.loop-i.i + 1)) k c.args.bytes.now out (put_chunk 0 (take k (drop n out)) four) c.loop-i.invariant
+    (put_chunk_whole (take k (drop n out)) four room ∙ same ∙ c.four_samples.ensures ∙ ap (λ at. four_at at c.args.bytes.now) place) (omega arith) (omega arith)
 
 pub returns : goal.returns
 returns c =

@@ -1,0 +1,2 @@
+mod LineVectors
+pub mod PieceLemmas

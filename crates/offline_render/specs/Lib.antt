@@ -1,0 +1,4 @@
+-- What the contracts of a frame cite.
+pub mod Frame
+pub mod Links
+pub mod Walk
