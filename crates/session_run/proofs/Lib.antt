@@ -6,3 +6,4 @@ pub mod OutLemmas
 pub mod DoesLemmas
 pub mod ReplyLemmas
 pub mod MigratedLemmas
+mod CheckVectors

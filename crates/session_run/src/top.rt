@@ -28,7 +28,8 @@ where
     W: Sink + Send,
     O: Sink + Send,
     ensures usage { (result.status ≡ Status.Usage) ↔ (asked_by words.now ≡ None) }
-    ensures ends { M.outside.tells → EndsAsAsked M.outside world (asked_by words.now) result.status }
+    ensures ends { M.outside.tells
+        → EndsAsAsked M.outside world (asked_by words.now) result.status }
     ensures status { IsStatusOf (asked_by words.now) result.status }
     ensures export { M.outside.tells
         → PlaysTheExport M.outside W.outside world (asked_by words.now) result }
