@@ -6,7 +6,8 @@ use Rattle.std.proofs.lemmas.Option.{slice_get_within, same_Some}
 use Rattle.session_model.specs.declared.session.Session.{Session}
 use Rattle.session_model.specs.Valid.{IsValid}
 use Rattle.engine_model.specs.Due.{Ack}
-use Rattle.edition_log.specs.EditionState.{EditionState as Edition, IsEditionState, IsEditionOf}
+use Rattle.edition_log.specs.EditionState.{EditionState as Edition, IsEditionState}
+use Rattle.edition_log.specs.Entered.{IsAsOpened}
 use Rattle.audio_source.specs.Opened.{OpenedSource}
 use Rattle.piece_item.specs.declared.item.Item.{Item}
 use Rattle.piece_item.specs.declared.butler_ends.ButlerEnds.{ButlerEnds}
@@ -42,11 +43,11 @@ one_more e ps n x many is all t p hp = by_place ps t p (λ u q hq. all u q hq) h
 pub new_table : IsTable (replicate 10001 0) []
 new_table = record { generations = length-replicate {A = ℕ} 10001 0; each = λ g near. get_or-replicate 10001 g 0 0 (subst (λ n. g < n) (length-replicate {A = ℕ} 10001 0) near) }
 
-stands_first : (s : Session) (e : Edition) (is : IsEditionOf s e) (cycles t : ℕ) (acks : List Ack) → t < 32 → StandsFor s e.edits cycles t acks (first e t) []
+stands_first : (s : Session) (e : Edition) (is : IsAsOpened s e) (cycles t : ℕ) (acks : List Ack) → t < 32 → StandsFor s e.edits cycles t acks (first e t) []
 stands_first s e is cycles t acks near = record {
   kept = record { entered = omega arith; in_order = refl; from = refl };
   generation_is = generation_is s e is;
-  touched_is = is.touched t near;
+  touched_is = is.edition_of.touched t near;
   mark_is = refl;
   base = 0;
   tracked = record {

@@ -22,8 +22,9 @@ use Rattle.engine_laws.specs.PlayedLaws.{IsNamed}
 use Rattle.engine_laws.proofs.NumberLemmas.{last_in}
 use Rattle.engine_laws.proofs.PlayedLemmas.{genuine_stays}
 use Rattle.locate_loop.specs.Transport.{transport_of}
-use Rattle.edition_log.specs.EditionState.{EditionState as Edition, IsEditionOf}
-use Rattle.edition_log.proofs.PlayLaws.{editions_play_their_places, stands_at}
+use Rattle.edition_log.specs.EditionState.{EditionState as Edition}
+use Rattle.edition_log.specs.Entered.{IsAsOpened}
+use Rattle.edition_log.proofs.PlayLaws.{editions_play_their_places}
 use Rattle.piece_item.specs.declared.item.Item.{Item}
 use Rattle.piece_item.specs.Views.{kind_of, item_of}
 use Rattle.butler.specs.Sends.{kinds}
@@ -67,15 +68,15 @@ module _ (sounds : Sounds) (s : Session) where
 
   -- ---- what is sent now
 
-  module _ (e : Edition) (is : IsEditionOf s e) (cycles t : ℕ) (acks : List Ack) (mono : channels_at s t ≡ 1) where
+  module _ (e : Edition) (is : IsAsOpened s e) (cycles t : ℕ) (acks : List Ack) (mono : channels_at s t ≡ 1) where
     abbrev N : Needs
     N = needs s e.edits cycles t (length e.edits) acks
 
     same_frame : (n c : ℕ) → track_sample sounds (track_regions e.session t) c (place_of (transport_of e.transport) n)
         ≡ samples_of sounds s e.edits t (playlist_edition s e.edits t (length e.edits)) c (place e.edits (generation e.edits (length e.edits)) n)
     same_frame n c = ap (λ z. track_sample sounds (track_regions z t) c (place_of (transport_of e.transport) n))
-        (session_is s e is ∙ sym (stands_at s e (playlist_edition s e.edits t (length e.edits)) is))
-        ∙ ap (λ x. samples_of sounds s e.edits t (playlist_edition s e.edits t (length e.edits)) c x) ((editions_play_their_places s e is).places n)
+        (session_is s e is ∙ sym (is.stands (playlist_edition s e.edits t (length e.edits))))
+        ∙ ap (λ x. samples_of sounds s e.edits t (playlist_edition s e.edits t (length e.edits)) c x) ((editions_play_their_places s e is.edition_of).places n)
 
     one_more : (n : ℕ) → n ≡ n * 1
     one_more n = omega arith

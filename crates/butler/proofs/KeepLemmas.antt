@@ -16,8 +16,9 @@ use Rattle.sound_model.specs.Numbers.{unity}
 use Rattle.engine_model.specs.Edits.{generation}
 use Rattle.engine_model.specs.Due.{Ack, needs, next_block}
 use Rattle.engine_model.specs.PlainSession.{has_16_bits, is_plain, is_plain_route, is_plain_track, is_at_unity, leads_plainly, is_manual, has_no_point, sends_nothing}
-use Rattle.edition_log.specs.EditionState.{EditionState as Edition, IsEditionOf}
-use Rattle.edition_log.proofs.PlayLaws.{editions_play_their_places, stands_at}
+use Rattle.edition_log.specs.EditionState.{EditionState as Edition}
+use Rattle.edition_log.specs.Entered.{IsAsOpened}
+use Rattle.edition_log.proofs.PlayLaws.{editions_play_their_places}
 use Rattle.disk_ring.specs.Receiver.{GoesOnOut}
 use Rattle.butler.specs.declared.supply.TrackSupply.{TrackSupply}
 use Rattle.butler.specs.SendProgress.{needs_of, target_of}
@@ -56,12 +57,12 @@ one_channel s t plain valid near = let master = valid.formed.limits.master in el
 
 -- ---- an edition of the session
 
-module _ (s : Session) (e : Edition) (is : IsEditionOf s e) where
+module _ (s : Session) (e : Edition) (is : IsAsOpened s e) where
   pub session_is : e.session ≡ s
-  session_is = ap (λ x. x.session) is.state ∙ stands_at s e (length e.edits) is
+  session_is = ap (λ x. x.session) is.edition_of.state ∙ is.stands (length e.edits)
 
   pub generation_is : e.transport.generation ≡ generation e.edits (length e.edits)
-  generation_is = (editions_play_their_places s e is).counted
+  generation_is = (editions_play_their_places s e is.edition_of).counted
 
   -- what a pass aims at of a track is what the definitions of the engine need
   pub targets_are : (t next cycles : ℕ) (acks : List Ack) → t < 32 → next ≡ next_block acks (generation e.edits (length e.edits)) →
@@ -70,7 +71,7 @@ module _ (s : Session) (e : Edition) (is : IsEditionOf s e) where
     track = t;
     edition = length e.edits;
     generation = generation_is i;
-    touched = is.touched t near i;
+    touched = is.edition_of.touched t near i;
     next = next_is i;
     depth = (session_is i).depth;
     cycles = cycles;
@@ -98,7 +99,7 @@ pub few_tracks : (s : Session) (t : ℕ) → IsValid s → t < length s.tracks.i
 few_tracks s t valid near = let few = valid.formed.limits.tracks in omega arith
 
 pub enter_keeps : {V : Type 0} (s : Session) (before : List Edit) (e : Edition) (old new : ButlerState V) → new ≡ record old { supplies = new.supplies } → AreEntered e old.supplies new.supplies →
-    IsEditionOf s e → IsPrefix before e.edits → IsServing s before old → IsServing s e.edits new
+    IsAsOpened s e → IsPrefix before e.edits → IsServing s before old → IsServing s e.edits new
 enter_keeps {V} s before e old new same enters edition grows is = subst (λ (b : ButlerState V). IsServing s e.edits b) (sym same) record {
   plain = is.plain;
   valid = is.valid;
@@ -117,6 +118,6 @@ enter_keeps {V} s before e old new same enters edition grows is = subst (λ (b :
         closed = tended.closed;
         stands = subst (λ (z : TrackSupply). StandsFor s e.edits old.cycles t (acks_of old.ends.acks.received) z.progress (reverse (kinds d.sent))) (sym (enters.each t p q hp hq))
             (stands_entered s e.edits old.cycles t (acks_of old.ends.acks.received) (reverse (kinds d.sent)) before grows.0 p.progress e.transport.generation (slice_index_or e.touched t 0)
-            grows.1 (generation_is s e edition) (edition.touched t (few_tracks s t is.valid low)) tended.stands);
+            grows.1 (generation_is s e edition) (edition.edition_of.touched t (few_tracks s t is.valid low)) tended.stands);
       };
 }

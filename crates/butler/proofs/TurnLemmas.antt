@@ -7,7 +7,8 @@ use Rattle.sound_model.specs.Regions.{Sounds}
 use Rattle.session_model.specs.declared.session.Session.{Session}
 use Rattle.engine_model.specs.Edits.{generation}
 use Rattle.engine_model.specs.Due.{Ack, Needs, needs, next_block}
-use Rattle.edition_log.specs.EditionState.{EditionState as Edition, IsEditionState, IsEditionOf}
+use Rattle.edition_log.specs.EditionState.{EditionState as Edition, IsEditionState}
+use Rattle.edition_log.specs.Entered.{IsAsOpened}
 use Rattle.disk_ring.specs.Sender.{Sender}
 use Rattle.piece_item.specs.declared.item.Item.{Item}
 use Rattle.piece_item.specs.Views.{kind_of}
@@ -23,7 +24,7 @@ use Rattle.butler.specs.Outcomes.{pass_of}
 use Rattle.butler.proofs.StandLemmas.{run_stands, due_is}
 use Rattle.butler.proofs.KeepLemmas.{session_is, generation_is, targets_are, one_channel, few_tracks}
 
-module _ (s : Session) (e : Edition) (is : IsEditionOf s e) (cycles t : ℕ) (acks : List Ack) where
+module _ (s : Session) (e : Edition) (is : IsAsOpened s e) (cycles t : ℕ) (acks : List Ack) where
   abbrev N : Needs
   N = needs s e.edits cycles t (length e.edits) acks
 
@@ -100,7 +101,7 @@ once n = omega arith
 
 -- ---- all tracks, of a butler that entered the edition
 
-module _ {V : Type 0} (s : Session) (e : Edition) (is : IsEditionOf s e) (seen : IsEditionState e) (b : ButlerState V) (serving : IsServing s e.edits b) where
+module _ {V : Type 0} (s : Session) (e : Edition) (is : IsAsOpened s e) (seen : IsEditionState e) (b : ButlerState V) (serving : IsServing s e.edits b) where
   abbrev A : List Ack
   A = acks_of b.ends.acks.received
 

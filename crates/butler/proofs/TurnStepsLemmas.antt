@@ -9,8 +9,8 @@ use Rattle.ses_io.specs.Outside.{MediaOutside}
 use Rattle.session_model.specs.declared.session.Session.{Session}
 use Rattle.engine_model.specs.Due.{Ack}
 use Rattle.engine_model.specs.Played.{samples_of, IsGenuine}
-use Rattle.edition_log.specs.EditionState.{EditionState as Edition, IsEditionState, IsEditionOf}
-use Rattle.edition_log.specs.Entered.{Entered}
+use Rattle.edition_log.specs.EditionState.{EditionState as Edition, IsEditionState}
+use Rattle.edition_log.specs.Entered.{Entered, IsAsOpened}
 use Rattle.disk_ring.specs.Sender.{Sender}
 use Rattle.piece_item.specs.declared.item.Item.{Item}
 use Rattle.piece_item.specs.declared.ack.Ack.{Ack as Acknowledgement}
@@ -39,7 +39,7 @@ pub record Comes {V : Type 0} (tells : Type 0) (sounds : Sounds) (s : Session) (
   pub genuine : tells → AreGenuine sounds s e.edits b.ends.sends.items → AreGenuine sounds s e.edits new.ends.sends.items
   pub answer : TurnAnswers s e.edits b.cycles (acks_of b.ends.acks.received) most b.ends.sends.items result new.ends.sends.items
 
-module _ {V : Type 0} (tells : Type 0) (sounds : Sounds) (s : Session) (e : Edition) (is : IsEditionOf s e) (seen : IsEditionState e) (most : ℕ) (b : ButlerState V) (serving : IsServing s e.edits b) where
+module _ {V : Type 0} (tells : Type 0) (sounds : Sounds) (s : Session) (e : Edition) (is : IsAsOpened s e) (seen : IsEditionState e) (most : ℕ) (b : ButlerState V) (serving : IsServing s e.edits b) where
   abbrev A : List Ack
   A = acks_of b.ends.acks.received
 

@@ -13,7 +13,8 @@ use Rattle.engine_model.specs.Played.{samples_of, IsGenuine}
 use Rattle.engine_laws.specs.Kept.{Kept}
 use Rattle.engine_laws.specs.Tracked.{Tracked}
 use Rattle.engine_laws.specs.Marks.{next_mark}
-use Rattle.edition_log.specs.EditionState.{EditionState as Edition, IsEditionOf}
+use Rattle.edition_log.specs.EditionState.{EditionState as Edition}
+use Rattle.edition_log.specs.Entered.{IsAsOpened}
 use Rattle.audio_source.specs.Opened.{OpenedSource, IsListed}
 use Rattle.disk_ring.specs.Sender.{Sender}
 use Rattle.piece_item.specs.declared.item.Item.{Item}
@@ -89,7 +90,7 @@ pub record IsNewSender (depth room : ℕ) (d : Sender Item) : Type 0 where
 -- What a butler may begin with: an edition of a plain session, its sources, and the ends of new rings, one for each track.
 pub record MayBegin (s : Session) (e : Edition) (sources : List OpenedSource) (cycles : ℕ) (ends : ButlerEnds) : Type 0 where
   pub plain : is_plain s ≡ true
-  pub edition_of : IsEditionOf s e
+  pub edition_of : IsAsOpened s e
   pub sources_of : IsListed s.rate s.sources.items sources
   pub some_cycle : 1 ≤ cycles
   pub near : cycles ≤ 100000

@@ -6,8 +6,8 @@ use Rattle.sound_model.specs.Regions.{Sounds}
 use Rattle.session_model.specs.declared.session.Session.{Session}
 use Rattle.session_model.specs.declared.edit.Edit.{Edit}
 use Rattle.engine_model.specs.Due.{Ack}
-use Rattle.edition_log.specs.EditionState.{EditionState as Edition, IsEditionOf}
-use Rattle.edition_log.specs.Entered.{Entered}
+use Rattle.edition_log.specs.EditionState.{EditionState as Edition}
+use Rattle.edition_log.specs.Entered.{Entered, IsAsOpened}
 use Rattle.audio_source.specs.Told.{source_sound}
 use Rattle.disk_ring.specs.Sender.{Sender}
 use Rattle.piece_item.specs.declared.item.Item.{Item}
@@ -23,8 +23,8 @@ use Rattle.butler.specs.Serving.{IsServing, AreGenuine}
 pub record Enters {V : Type 0} (at : Entered) (b : ButlerState V) (e : Edition) : Type 0 where
   -- it serves the session, and these are the edits that it entered last
   pub serving : IsServing at.session at.edits b
-  -- the edition is one of the session
-  pub edition_of : IsEditionOf at.session e
+  -- the edition is one of the session, and left it as it was opened
+  pub edition_of : IsAsOpened at.session e
   -- and its list begins with them
   pub grows : IsPrefix at.edits e.edits
 

@@ -8,6 +8,7 @@ pub mod SplitLemmas
 pub mod BackLemmas
 pub mod PrintLaws
 pub mod OfForms
+pub mod MadeOf
 pub mod ReadLaws
 pub mod WrongLaws
 pub mod ShortLaws

@@ -16,7 +16,8 @@ use Rattle.edit_script.specs.Forms.{Value, Number}
 use Rattle.edit_script.specs.Table.{forms_of, makes, done}
 use Rattle.edit_script.specs.Reading.{Read, ◌>>=◌, refused_if, found, verb_by, values_from, command_of, command_in, is_comment, said_by, said, line_of, read_line}
 use Rattle.edit_script.specs.Laws.{IsSayable, ReadCanBeSaid, WaitsAreFew, EachVerbMakes}
-use Rattle.edit_script.proofs.OfForms.{AreOf, are_of, Makes, transport_made, strip_made, desk_made, region_made, blend_made}
+use Rattle.edit_script.proofs.OfForms.{AreOf, are_of}
+use Rattle.edit_script.proofs.MadeOf.{Makes, transport_made, strip_made, desk_made, region_made, blend_made}
 
 -- a command that a line may say
 abbrev Keeps : Command → Type 0

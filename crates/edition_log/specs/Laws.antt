@@ -1,13 +1,13 @@
 -- What is said of an edition.
-use Rattle.std.specs.Prelude.{◌≡◌, ℕ, true, List, length}
-use Rattle.std.specs.List.{list_all}
+use Rattle.std.specs.Prelude.{◌≡◌, ℕ, List, [], ◌∷◌, ◌++◌, length, Option, Ok}
 use Rattle.session_model.specs.declared.session.Session.{Session}
 use Rattle.session_model.specs.declared.edit.Edit.{Edit}
+use Rattle.engine_model.specs.Changes.{Change, TransportOnly}
+use Rattle.engine_model.specs.Commands.{change_of}
 use Rattle.engine_model.specs.Edits.{generation, has_quit}
 use Rattle.engine_model.specs.Editions.{edition}
-use Rattle.engine_model.specs.Transport.{place_of, place}
+use Rattle.engine_model.specs.Transport.{Wrap, place_of, place}
 use Rattle.locate_loop.specs.Transport.{transport_of}
-use Rattle.edition_log.specs.Built.{is_built}
 use Rattle.edition_log.specs.EditionState.{EditionState, IsEditionOf}
 
 pub record PlaysItsPlaces (e : EditionState) : Type 0 where
@@ -18,6 +18,11 @@ pub record PlaysItsPlaces (e : EditionState) : Type 0 where
 abbrev pub EditionsPlayTheirPlaces : Type 0
 EditionsPlayTheirPlaces = (s : Session) (e : EditionState) → IsEditionOf s e → PlaysItsPlaces e
 
--- The edits that are carried out so far leave the session as it was opened.
-abbrev pub BuiltEditsLeaveTheSession : Type 0
-BuiltEditsLeaveTheSession = (s : Session) (edits : List Edit) (k : ℕ) → list_all is_built edits ≡ true → (edition s edits k).session ≡ s
+-- the edit is of the transport: where it is accepted in this session, it changes nothing of it
+abbrev pub IsOfTransport : Session → Edit → Type 0
+IsOfTransport s edit = (wrap : Option Wrap) (c : Change) → change_of s wrap edit ≡ Ok c → c ≡ TransportOnly
+
+-- Where the edits have left the session as it was opened, they leave it so with one more that is of the transport.
+abbrev pub TransportEditsLeaveTheSession : Type 0
+TransportEditsLeaveTheSession = (s : Session) (edits : List Edit) (edit : Edit) → ((k : ℕ) → (edition s edits k).session ≡ s) → IsOfTransport s edit →
+    (k : ℕ) → (edition s (edits ++ edit ∷ []) k).session ≡ s

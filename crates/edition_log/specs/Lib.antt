@@ -1,8 +1,5 @@
 -- What contracts see of an edition, and what its calls do.
-pub mod Reason
-pub mod Built
 pub mod EditionState
 pub mod Entered
 pub mod Steps
 pub mod Laws
-pub mod Texts

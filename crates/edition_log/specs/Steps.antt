@@ -1,10 +1,15 @@
 -- What an edit does to an edition.
-use Rattle.std.specs.Prelude.{◌≡◌, ◌<◌, ◌^◌, ℕ, [], ◌∷◌, ◌++◌, Result, Ok, Err, IsOk}
+use Rattle.std.specs.Prelude.{◌≡◌, ◌<◌, ◌^◌, ℕ, List, [], ◌∷◌, ◌++◌, length, set, Option, Some, None, IsSome, Result, Ok, Err, IsOk}
 use Rattle.session_model.specs.declared.edit.Edit.{Edit}
 use Rattle.session_model.specs.declared.edit.Edit.TheVariants.{Roll, Stop, Quit, Recording, Locate, Loop, LoopOff, Arm, Solo, Mute, Gain, Pan, Mode, Point, Unpoint, Connect, Send, Unsend, Add, Remove, Move, Trim, Layer, Opaque, RegionGain, Fade, Shape}
+use Rattle.engine_model.specs.Commands.{change_of}
 use Rattle.engine_model.specs.Editions.{apply}
-use Rattle.edition_log.specs.declared.reason.Refusal.{Refusal}
-use Rattle.edition_log.specs.Reason.{refusal_of}
+use Rattle.engine_model.specs.Transport.{Wrap}
+use Rattle.locate_loop.specs.Transport.{transport_of}
+use Rattle.session_change.specs.declared.change.Change.{Change}
+use Rattle.session_change.specs.Change.{change_seen}
+use Rattle.edit_resolve.specs.declared.reason.Refusal.{Refusal}
+use Rattle.edit_resolve.specs.Reason.{refusal_of}
 use Rattle.edition_log.specs.EditionState.{EditionState, state_of}
 
 -- What `apply` leaves: the next state with the edit at the list's end, or the first refusal and nothing changed.
@@ -18,32 +23,42 @@ abbrev pub Admits : EditionState → Edit → Result (Unit {0}) Refusal → Type
 Admits e edit (Ok _) = IsOk (apply (state_of e) edit)
 Admits e edit (Err why) = apply (state_of e) edit ≡ Err (refusal_of why)
 
--- the places of an edit that is accepted lie before 2^40
-abbrev pub HasNearPlace : Edit → Type 0
-HasNearPlace Roll = Unit {0}
-HasNearPlace Stop = Unit {0}
-HasNearPlace Quit = Unit {0}
-HasNearPlace (Recording on) = Unit {0}
-HasNearPlace (Locate to) = to < 2 ^ 40
-HasNearPlace (Loop from to) = Unit {0}
-HasNearPlace LoopOff = Unit {0}
-HasNearPlace (Arm track on) = Unit {0}
-HasNearPlace (Solo track on) = Unit {0}
-HasNearPlace (Mute route on) = Unit {0}
-HasNearPlace (Gain route gain) = Unit {0}
-HasNearPlace (Pan route left right) = Unit {0}
-HasNearPlace (Mode route mode) = Unit {0}
-HasNearPlace (Point route at gain) = Unit {0}
-HasNearPlace (Unpoint route at) = Unit {0}
-HasNearPlace (Connect route target) = Unit {0}
-HasNearPlace (Send route target pre gain) = Unit {0}
-HasNearPlace (Unsend route target) = Unit {0}
-HasNearPlace (Add track id source start long at layer) = Unit {0}
-HasNearPlace (Remove track id) = Unit {0}
-HasNearPlace (Move track id at) = Unit {0}
-HasNearPlace (Trim track id start long) = Unit {0}
-HasNearPlace (Layer track id layer) = Unit {0}
-HasNearPlace (Opaque track id on) = Unit {0}
-HasNearPlace (RegionGain track id gain) = Unit {0}
-HasNearPlace (Fade track id fade_in fade_out) = Unit {0}
-HasNearPlace (Shape track id shape_in shape_out) = Unit {0}
+-- What is answered of an edit: what it changes, or why it isn't accepted.
+abbrev pub Resolved : EditionState → Edit → Result Change Refusal → Type 0
+Resolved e edit (Ok c) = (length e.edits < 10000) × (change_of e.session (transport_of e.transport).wrap edit ≡ Ok (change_seen c))
+Resolved e edit (Err why) = apply (state_of e) edit ≡ Err (refusal_of why)
+
+-- the number of the edit stands at the track whose playlist the change is of; the others are as they were
+abbrev pub noted : Option ℕ → ℕ → List ℕ → List ℕ
+noted None number touched = touched
+noted (Some track) number touched = set touched track number
+
+-- what the transport needs of an edit that is accepted, where this loop is in force
+abbrev pub MayMove : Option Wrap → Edit → Type 0
+MayMove wrap Roll = Unit {0}
+MayMove wrap Stop = Unit {0}
+MayMove wrap Quit = Unit {0}
+MayMove wrap (Recording on) = Unit {0}
+MayMove wrap (Locate to) = to < 2 ^ 40
+MayMove wrap (Loop from to) = (from < to) × (to < 2 ^ 40)
+MayMove wrap LoopOff = IsSome wrap
+MayMove wrap (Arm track on) = Unit {0}
+MayMove wrap (Solo track on) = Unit {0}
+MayMove wrap (Mute route on) = Unit {0}
+MayMove wrap (Gain route gain) = Unit {0}
+MayMove wrap (Pan route left right) = Unit {0}
+MayMove wrap (Mode route mode) = Unit {0}
+MayMove wrap (Point route at gain) = Unit {0}
+MayMove wrap (Unpoint route at) = Unit {0}
+MayMove wrap (Connect route target) = Unit {0}
+MayMove wrap (Send route target pre gain) = Unit {0}
+MayMove wrap (Unsend route target) = Unit {0}
+MayMove wrap (Add track id source start long at layer) = Unit {0}
+MayMove wrap (Remove track id) = Unit {0}
+MayMove wrap (Move track id at) = Unit {0}
+MayMove wrap (Trim track id start long) = Unit {0}
+MayMove wrap (Layer track id layer) = Unit {0}
+MayMove wrap (Opaque track id on) = Unit {0}
+MayMove wrap (RegionGain track id gain) = Unit {0}
+MayMove wrap (Fade track id fade_in fade_out) = Unit {0}
+MayMove wrap (Shape track id shape_in shape_out) = Unit {0}

@@ -4,15 +4,18 @@ ghost use Rattle.session_model.specs.declared.session.Session.{Session as Openin
 ghost use Rattle.session_model.specs.Valid.{IsValid};
 ghost use Rattle.locate_loop.specs.Transport.{IsTransport};
 ghost use Rattle.edition_log.specs.EditionState.{EditionState, IsEditionState, IsOpen, IsEditionOf};
-ghost use Rattle.edition_log.specs.Built.{is_built};
-ghost use Rattle.edition_log.specs.Steps.{Applies, Admits};
+ghost use Rattle.engine_model.specs.Edits.{keeps_forms};
+ghost use Rattle.edition_log.specs.Steps.{Applies, Admits, Resolved};
 
+use crate::changing::{change_session, note};
 use crate::moving::moved;
-use crate::reason::{Bound, Refusal};
+use crate::types::read_types;
+use edit_resolve::{Bound, Refusal, change_of};
 use locate_loop::Transport;
 use route_graph::{Order, order};
 use ses_io::{NoMemory, TryClone};
-use ses_units::limits::{EDITS, END};
+use ses_units::limits::EDITS;
+use session_change::Change;
 use session_model::{Edit, EditList, Session};
 use std::alloc::Global;
 use std::marker::Model;
@@ -65,6 +68,7 @@ impl Edition {
         let Ok(order) = order(alloc, &s) else {
             return Err(NoMemory);
         };
+        read_types(&s);
         Ok(Edition {
             session: s,
             transport: Transport::at_rest(),
@@ -74,59 +78,40 @@ impl Edition {
             ended: false,
         })
     }
+    // What an edit changes, or why it isn't accepted.
+    fn resolved(&self, edit: &Edit) -> Result<Change, Refusal>
+        ensures { Resolved self.now edit.now result }
+    {
+        if self.edits.len() >= EDITS as usize {
+            return Err(Refusal::Limit(Bound::Edits));
+        }
+        change_of(&self.session, self.transport.wrap, edit)
+    }
+
     /// Takes in one more edit, and answers the number of the edition that it makes. A refused edit changes nothing. It
-    /// takes no memory.
+    /// takes no memory. The edit keeps the forms of a control line: ids are 1..999,999, lengths 1 or more, layers at most
+    /// 65,535.
     pub fn apply(&mut self, edit: &Edit) -> Result<u32, Refusal>
-        requires built { IsTrue (is_built edit.now) }
+        requires forms { IsTrue (keeps_forms edit.now) }
         requires open { IsOpen self.old }
         ensures step { Applies self.old edit.now result self.new }
         ensures stays { (s : Opening) → IsEditionOf s self.old → IsEditionOf s self.new }
     {
-        self.admits(edit)?;
+        let change = self.resolved(edit)?;
+        change_session(&mut self.session, &mut self.order, &change);
         self.transport = moved(&self.transport, edit);
         self.edits.push(*edit);
+        note(&mut self.touched, &change, self.edits.len() as u32);
         Ok(self.number())
     }
 
     /// The refusal that `apply` would give of an edit, or that it would be accepted.
     pub fn admits(&self, edit: &Edit) -> Result<(), Refusal>
-        requires built { IsTrue (is_built edit.now) }
         requires open { IsOpen self.now }
         ensures { Admits self.now edit.now result }
     {
-        if self.edits.len() >= EDITS as usize {
-            return Err(Refusal::Limit(Bound::Edits));
-        }
-        match *edit {
-            Edit::Locate { to } if to >= END => Err(Refusal::Far(to)),
-            Edit::Roll
-            | Edit::Stop
-            | Edit::Quit
-            | Edit::Recording { .. }
-            | Edit::Locate { .. }
-            | Edit::Loop { .. }
-            | Edit::LoopOff
-            | Edit::Arm { .. }
-            | Edit::Solo { .. }
-            | Edit::Mute { .. }
-            | Edit::Gain { .. }
-            | Edit::Pan { .. }
-            | Edit::Mode { .. }
-            | Edit::Point { .. }
-            | Edit::Unpoint { .. }
-            | Edit::Connect { .. }
-            | Edit::Send { .. }
-            | Edit::Unsend { .. }
-            | Edit::Add { .. }
-            | Edit::Remove { .. }
-            | Edit::Move { .. }
-            | Edit::Trim { .. }
-            | Edit::Layer { .. }
-            | Edit::Opaque { .. }
-            | Edit::RegionGain { .. }
-            | Edit::Fade { .. }
-            | Edit::Shape { .. } => Ok(()),
-        }
+        self.resolved(edit)?;
+        Ok(())
     }
 
     /// No edit follows.

@@ -1,18 +1,34 @@
 //! What accepted edits do to the transport.
-ghost use Rattle.std.specs.Prelude.{◌≡◌, ◌+◌, ◌<◌, ◌≤◌, ◌^◌, IsTrue, None};
-ghost use Rattle.engine_model.specs.Transport.{moved};
-ghost use Rattle.locate_loop.specs.Transport.{transport_of, IsTransport};
-ghost use Rattle.edition_log.specs.Built.{is_built};
-ghost use Rattle.edition_log.specs.Steps.{HasNearPlace};
+ghost use Rattle.std.specs.Prelude.{◌≡◌, ◌+◌, ◌<◌, ◌≤◌};
+ghost use Rattle.std.specs.Option.{option_map};
+ghost use Rattle.engine_model.specs.Transport.{moved, started};
+ghost use Rattle.locate_loop.specs.Transport.{transport_of, wrap_of, IsTransport};
+ghost use Rattle.edition_log.specs.Steps.{MayMove};
 
-use locate_loop::Transport;
+use locate_loop::{Transport, Wrap};
 use session_model::Edit;
+
+// A generation starts at a place.
+fn started(t: &Transport, target: u64, wrap: Option<Wrap>) -> Transport
+    requires few { t.now.generation < 10000 }
+    ensures started { transport_of result
+        ≡ started (transport_of t.now) target (option_map wrap_of wrap) }
+    ensures target { result.target ≡ target }
+    ensures wrap { result.wrap ≡ wrap }
+    ensures counted { result.generation ≡ t.now.generation + 1 }
+{
+    Transport {
+        generation: t.generation + 1,
+        target,
+        wrap,
+        ..*t
+    }
+}
 
 /// The transport after an edit that was accepted.
 pub(crate) fn moved(t: &Transport, edit: &Edit) -> Transport
-    requires built { IsTrue (is_built edit.now) }
     requires bounds { IsTransport t.now }
-    requires near { HasNearPlace edit.now }
+    requires may { MayMove (option_map wrap_of t.now.wrap) edit.now }
     requires few { t.now.generation < 10000 }
     ensures moved { transport_of result ≡ moved (transport_of t.now) edit.now }
     ensures bounds { IsTransport result }
@@ -23,17 +39,19 @@ pub(crate) fn moved(t: &Transport, edit: &Edit) -> Transport
             rolling: true,
             ..*t
         },
-        Edit::Locate { to } => Transport {
-            generation: t.generation + 1,
-            target: to,
+        Edit::Stop => Transport {
+            rolling: false,
             ..*t
         },
-        Edit::Stop
-        | Edit::Quit
-        | Edit::Recording { .. }
-        | Edit::Loop { .. }
-        | Edit::LoopOff
-        | Edit::Arm { .. }
+        Edit::Quit => Transport { quit: true, ..*t },
+        Edit::Recording { on } => Transport {
+            recording: on,
+            ..*t
+        },
+        Edit::Locate { to } => started(t, to, t.wrap),
+        Edit::Loop { from, to } => started(t, from, Some(Wrap { from, to })),
+        Edit::LoopOff => started(t, t.wrap.map_or(0, |wrap| wrap.to), None),
+        Edit::Arm { .. }
         | Edit::Solo { .. }
         | Edit::Mute { .. }
         | Edit::Gain { .. }

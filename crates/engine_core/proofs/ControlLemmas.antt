@@ -13,19 +13,27 @@ use Rattle.engine_model.specs.Editions as engine_editions
 use Rattle.engine_model.specs.Editions.{apply, changed, edition}
 use Rattle.engine_laws.proofs.SessionLemmas.{accepted_makes}
 use Rattle.engine_model.specs.Plain.{Run, accepted, export_commands, plain_from, with_edit, Do}
-use Rattle.edition_log.specs.declared.reason.Refusal.{Refusal}
+use Rattle.edit_resolve.specs.declared.reason.Refusal.{Refusal}
 use Rattle.edition_log.specs.EditionState.{EditionState as Edition, IsEditionOf, IsOpen, state_of}
-use Rattle.edition_log.specs.Built.{is_built}
+use Rattle.edition_log.specs.Entered.{IsAsOpened}
 use Rattle.edition_log.specs.Steps.{Applies}
-use Rattle.engine_core.specs.Control.{IsControlled, Obeys, edits_after}
+use Rattle.edition_log.specs.Laws.{IsOfTransport}
+use Rattle.edition_log.proofs.AsOpenedLemmas.{locate_is_of_transport, roll_is_of_transport, stays_as_opened}
+use Rattle.engine_core.specs.Control.{IsControlled, Obeys, edits_after, is_of_export}
 
 -- ---- one line
 
--- an edit that is built keeps what the transport says of recording and quitting
-keeps_on : (t : engine.Transport) (edit : Edit) → is_built edit ≡ true → ((moved t edit).recording ≡ t.recording) × ((moved t edit).quit ≡ t.quit)
-keeps_on t Roll built = (refl, refl)
-keeps_on t (Locate to) built = (refl, refl)
-keeps_on t _ built = absurd (true≢false (sym built))
+-- an edit of an export keeps what the transport says of recording and quitting
+keeps_on : (t : engine.Transport) (edit : Edit) → is_of_export edit ≡ true → ((moved t edit).recording ≡ t.recording) × ((moved t edit).quit ≡ t.quit)
+keeps_on t Roll is = (refl, refl)
+keeps_on t (Locate to) is = (refl, refl)
+keeps_on t _ is = absurd (true≢false (sym is))
+
+-- and changes nothing of the session
+of_transport : (s : Session) (edit : Edit) → is_of_export edit ≡ true → IsOfTransport s edit
+of_transport s Roll is = roll_is_of_transport s
+of_transport s (Locate to) is = locate_is_of_transport s to
+of_transport s _ is = absurd (true≢false (sym is))
 
 same_ok : (m : Checked engine_editions.Edition) (e next : engine_editions.Edition) → m ≡ Ok e → m ≡ Ok next → e ≡ next
 same_ok m e next is also_is = cc
@@ -40,24 +48,28 @@ taken s e edit is ok = ap (λ b. if b then e.edits ++ edit ∷ [] else e.edits) 
 not_taken : (s : Session) (e : Edition) (edit : Edit) → IsEditionOf s e → is_ok (apply (state_of e) edit) ≡ false → edits_after s e.edits edit ≡ e.edits
 not_taken s e edit is ok = ap (λ b. if b then e.edits ++ edit ∷ [] else e.edits) (ap (λ x. is_ok (apply x edit)) (sym is.state) ∙ ok)
 
-pub obeyed : (s : Session) (old : Edition) (edit : Edit) (answer : Result ℕ Refusal) (new : Edition) → IsEditionOf s old → IsEditionOf s new → Applies old edit answer new → Obeys s old edit new
-obeyed s old edit (Ok number) new was now step = record { edition_of = now; edits = step.2 ∙ sym (taken s old edit was (ap is_ok step.0)) }
-obeyed s old edit (Err why) new was now step = record {
-  edition_of = now;
-  edits = ap (λ e. e.edits) step.1 ∙ sym (not_taken s old edit was (ap is_ok step.0));
+obeyed_edits : (s : Session) (old : Edition) (edit : Edit) (answer : Result ℕ Refusal) (new : Edition) → IsEditionOf s old → Applies old edit answer new → new.edits ≡ edits_after s old.edits edit
+obeyed_edits s old edit (Ok number) new was step = step.2 ∙ sym (taken s old edit was (ap is_ok step.0))
+obeyed_edits s old edit (Err why) new was step = ap (λ e. e.edits) step.1 ∙ sym (not_taken s old edit was (ap is_ok step.0))
+
+pub obeyed : (s : Session) (old : Edition) (edit : Edit) (answer : Result ℕ Refusal) (new : Edition) → is_of_export edit ≡ true → IsAsOpened s old → IsEditionOf s new → Applies old edit answer new →
+    Obeys s old edit new
+obeyed s old edit answer new is was now step = record {
+  edition_of = stays_as_opened s old edit answer new (of_transport s edit is) step now was;
+  edits = obeyed_edits s old edit answer new was.edition_of step;
 }
 
-pub still_open : (old : Edition) (edit : Edit) (answer : Result ℕ Refusal) (new : Edition) → is_built edit ≡ true → IsOpen old → Applies old edit answer new → IsOpen new
-still_open old edit (Ok number) new built open_before step = record {
+pub still_open : (old : Edition) (edit : Edit) (answer : Result ℕ Refusal) (new : Edition) → is_of_export edit ≡ true → IsOpen old → Applies old edit answer new → IsOpen new
+still_open old edit (Ok number) new is open_before step = record {
   ended = step.3 ∙ open_before.ended;
-  quit = ap (λ t. t.quit) (goes_on (state_of old) (state_of new) edit step.0) ∙ (keeps_on (state_of old).transport edit built).1 ∙ open_before.quit;
+  quit = ap (λ t. t.quit) (goes_on (state_of old) (state_of new) edit step.0) ∙ (keeps_on (state_of old).transport edit is).1 ∙ open_before.quit;
 }
-still_open old edit (Err why) new built open_before step = subst IsOpen (sym step.1) open_before
+still_open old edit (Err why) new is open_before step = subst IsOpen (sym step.1) open_before
 
-pub records_as_before : (old : Edition) (edit : Edit) (answer : Result ℕ Refusal) (new : Edition) → is_built edit ≡ true → Applies old edit answer new → new.transport.recording ≡ old.transport.recording
-records_as_before old edit (Ok number) new built step = ap (λ t. t.recording) (goes_on (state_of old) (state_of new) edit step.0)
-    ∙ (keeps_on (state_of old).transport edit built).0
-records_as_before old edit (Err why) new built step = ap (λ e. e.transport.recording) step.1
+pub records_as_before : (old : Edition) (edit : Edit) (answer : Result ℕ Refusal) (new : Edition) → is_of_export edit ≡ true → Applies old edit answer new → new.transport.recording ≡ old.transport.recording
+records_as_before old edit (Ok number) new is step = ap (λ t. t.recording) (goes_on (state_of old) (state_of new) edit step.0)
+    ∙ (keeps_on (state_of old).transport edit is).0
+records_as_before old edit (Err why) new is step = ap (λ e. e.transport.recording) step.1
 
 -- ---- the lines of an export
 

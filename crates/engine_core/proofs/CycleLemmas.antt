@@ -81,10 +81,10 @@ module _ {V W : Type 0} (s : Session) (c : Core V W) (has : HasMet s c) (looked 
   }
 
   not_recording : (edition s c.edition.edits (length c.edition.edits)).transport.recording ≡ false
-  not_recording = sym (ap (λ e. e.transport.recording) has.runs.edition_of.state) ∙ has.runs.recording
+  not_recording = sym (ap (λ e. e.transport.recording) has.runs.edition_of.edition_of.state) ∙ has.runs.recording
 
   not_quit : has_quit c.edition.edits (length c.edition.edits) ≡ false
-  not_quit = sym (editions_play_their_places s c.edition has.runs.edition_of).quit ∙ has.runs.quit
+  not_quit = sym (editions_play_their_places s c.edition has.runs.edition_of.edition_of).quit ∙ has.runs.quit
 
   module _ (p : Process W) (cycles : Cycles s c.edition c.process p) where
     pub entries_now : entries_of p ≡ next_entry s c.edition c.process ∷ entries_of c.process

@@ -14,6 +14,7 @@ pub mod ClosingLemmas
 pub mod WrittenLemmas
 pub mod CycleLemmas
 pub mod ControlLemmas
+mod ControlVectors
 pub mod PerformLemmas
 pub mod FinishLemmas
 pub mod StartLemmas

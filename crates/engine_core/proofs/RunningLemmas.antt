@@ -6,6 +6,7 @@ use Rattle.ses_io.specs.Outside.{MediaOutside}
 use Rattle.audio_source.specs.Told.{source_sound}
 use Rattle.session_model.specs.declared.edit.Edit.{Edit}
 use Rattle.edition_log.specs.EditionState.{EditionState as Edition, IsEditionOf}
+use Rattle.edition_log.specs.Entered.{IsAsOpened}
 use Rattle.piece_item.specs.declared.butler_ends.ButlerEnds.{ButlerEnds}
 use Rattle.process_cycle.specs.Answers as Look
 use Rattle.process_cycle.specs.Playing.{IsPlaying}
@@ -33,7 +34,7 @@ module _ {V : Type 0} (media : MediaOutside V) (begun : Begun) (e : Edition) (ol
   sends_met theirs more = record { edits = was.edits; sounds = was.sounds; genuine = λ told. more (was.genuine told) }
 
   -- the butler may enter the edition again
-  pub enters_again : IsServing begun.session e.edits old → IsEditionOf begun.session e → Enters (all_entered begun) old e
+  pub enters_again : IsServing begun.session e.edits old → IsAsOpened begun.session e → Enters (all_entered begun) old e
   enters_again serving is = record { serving = subst (λ es. IsServing begun.session es old) was.edits serving; edition_of = is; grows = ([], append-nil begun.edits ∙ sym was.edits) }
 
 -- and the process plays by the same edits, whatever is done by those that the run began with

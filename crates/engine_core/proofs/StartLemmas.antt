@@ -17,7 +17,8 @@ use Rattle.ses_io.specs.FixedList.{Listed}
 use Rattle.audio_source.specs.Lines.{SourcesState}
 use Rattle.cycle_journal.specs.declared.entry.Entry.{Entry as Noted}
 use Rattle.cycle_journal.specs.JournalView.{seen_entries}
-use Rattle.edition_log.specs.EditionState.{EditionState as Edition, IsEditionOf}
+use Rattle.edition_log.specs.EditionState.{EditionState as Edition}
+use Rattle.edition_log.specs.Entered.{IsAsOpened}
 use Rattle.disk_ring.specs.Sender.{Sender}
 use Rattle.disk_ring.specs.Receiver.{Receiver}
 use Rattle.piece_item.specs.declared.ack.Ack.{Ack}
@@ -107,10 +108,10 @@ module _ (s : Session) (w : RunEnds) (new_ends : AreNewRunEnds s w) where
     not_ended = acks.ended;
   }
 
-pub new_for : (s : Session) (e : Edition) (w : RunEnds) → IsEditionOf s e → AreNewRunEnds e.session w → AreNewRunEnds s w
+pub new_for : (s : Session) (e : Edition) (w : RunEnds) → IsAsOpened s e → AreNewRunEnds e.session w → AreNewRunEnds s w
 new_for s e w is new_ends = subst (λ (z : Session). AreNewRunEnds z w) (session_is s e is) new_ends
 
-pub playing_for : {W : Type 0} (s : Session) (e : Edition) (p : Process W) → IsEditionOf s e → IsPlaying e.session [] p → IsPlaying s [] p
+pub playing_for : {W : Type 0} (s : Session) (e : Edition) (p : Process W) → IsAsOpened s e → IsPlaying e.session [] p → IsPlaying s [] p
 playing_for s e p is playing = subst (λ (z : Session). IsPlaying z [] p) (session_is s e is) playing
 
 -- the workers have the ends that they were given
@@ -151,9 +152,6 @@ module _ {V W : Type 0} (s : Session) (e : Edition) (sources : SourcesState) (cy
     journal_is : p.journal ≡ record { items = []; room = cycles }
     journal_is = keeps.journal ∙ first_journal
 
-    plays_many : length p.ends.plays.items ≡ length s.tracks.items
-    plays_many = playing.plays
-
     first_plays : length first.ends.plays.items ≡ length s.tracks.items
     first_plays = sym keeps.plays ∙ playing.plays
 
@@ -164,7 +162,7 @@ module _ {V W : Type 0} (s : Session) (e : Edition) (sources : SourcesState) (cy
     ends_are : AreOtherEnds p.ends b.ends
     ends_are = let was = others s w new_ends in subst (AreOtherEnds p.ends) (sym given.ends_is) (record {
       plays = record {
-        count = plays_many ∙ sym new_ends.items.0;
+        count = playing.plays ∙ sym new_ends.items.0;
         ring = λ t x r within. same_rings t r (omega (arith, within, new_ends.items.0)) ∙ was.plays.ring t x r within;
       };
       takes = subst (λ l. AreOfOneRing l.items w.butler.takes.items) (sym (keeps.takes ∙ ap (λ (ends : ProcessEnds). ends.takes) first_ends)) was.takes;
@@ -179,7 +177,7 @@ module _ {V W : Type 0} (s : Session) (e : Edition) (sources : SourcesState) (cy
 
     receives_first : Receives (replicate (length s.tracks.items) []) (received p)
     receives_first = record {
-      many = length-map p.ends.plays.items received_kinds ∙ plays_many ∙ sym (length-replicate (length s.tracks.items) []);
+      many = length-map p.ends.plays.items received_kinds ∙ playing.plays ∙ sym (length-replicate (length s.tracks.items) []);
       each = λ t xs ys hx hy. (ys, sym (append-nil ys) ∙ ap (λ l. ys ++ l) (sym (nil_at (length s.tracks.items) t xs hx)));
     }
 

@@ -23,7 +23,6 @@ use Rattle.session_model.specs.Valid.{IsValid}
 use Rattle.engine_laws.specs.PlayedLaws.{GenuinePiecesMakeTheBlock, IsOfTrack, block_bytes, is_of, is_of_track}
 use Rattle.engine_laws.specs.JournalInvariant.{no_takes}
 use Rattle.ses_io.specs.FixedList.{Listed}
-use Rattle.edition_log.proofs.PlayLaws.{stands_at}
 use Rattle.edition_log.specs.EditionState.{EditionState as Edition}
 use Rattle.cycle_journal.specs.JournalView.{seen_entries}
 use Rattle.ses_io.specs.Streams.{AppendsSome}
@@ -97,7 +96,7 @@ module _ {V W : Type 0} (s : Session) (sounds : Sounds) (law : GenuinePiecesMake
       let entry = λ (l : List (List Kind)). entry_of s edits before l (no_takes s) (length edits) in
       let same : map (map (λ (i : engine.Item). i.kind)) tracks ≡ received c.process = map-map (map (λ (i : engine.Item). i.kind)) received_items c.process.ends.plays.items in
       ap (sound_bytes 16) (subst (λ l. mixed s edits tracks (entry l) ≡ block s edits samples (entry l)) same
-      (law s edits samples before tracks (no_takes s) (length edits) (subst IsValid (sym (stands_at s c.edition (length edits) has.runs.edition_of)) has.runs.playing.valid) as_many (length-replicate (length s.tracks.items) Off ∙ sym as_many) of_tracks))
+      (law s edits samples before tracks (no_takes s) (length edits) (subst IsValid (sym (has.runs.edition_of.stands (length edits))) has.runs.playing.valid) as_many (length-replicate (length s.tracks.items) Off ∙ sym as_many) of_tracks))
 
   -- one more block was written
   pub written_more : (held : W → List ℕ) (first : List ℕ) (looked : HasLookedAround s c) (p : Process W) → Cycles s c.edition c.process p →

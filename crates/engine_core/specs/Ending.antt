@@ -2,7 +2,7 @@
 use Rattle.std.specs.Prelude.{◌≡◌, ℕ, ◌*◌, ◌^◌, ◌<◌, ◌≤◌, true, if◌then◌else◌, is_err, List, length, slice_get, Some, Result, Ok}
 use Rattle.session_model.specs.declared.session.Session.{Session}
 use Rattle.ses_io.specs.Outside.{MediaOutside, OnlyReads}
-use Rattle.edition_log.specs.EditionState.{IsEditionOf}
+use Rattle.edition_log.specs.Entered.{IsAsOpened}
 use Rattle.disk_ring.specs.Receiver.{Receiver}
 use Rattle.piece_item.specs.declared.item.Item.{Item}
 use Rattle.process_cycle.specs.Ends.{AreOtherEnds}
@@ -23,7 +23,7 @@ pub record HearsMore (old new : List (Receiver Item)) : Type 0 where
 module _ {V : Type 0} where
   -- the butler serves the session, and the ends that the process left are of the same rings
   pub record ClosesARun (s : Session) (c : Closing V) : Type 0 where
-    pub edition_of : IsEditionOf s c.edition
+    pub edition_of : IsAsOpened s c.edition
     pub serving : IsServing s c.edition.edits c.butler
     pub ends : AreOtherEnds c.ends c.butler.ends
 

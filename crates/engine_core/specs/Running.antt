@@ -8,7 +8,7 @@ use Rattle.engine_model.specs.Items.{Kind}
 use Rattle.engine_model.specs.Journal.{Entry, rolled}
 use Rattle.engine_laws.specs.JournalInvariant.{JournalInvariant, Receives}
 use Rattle.engine_laws.specs.TruthLaws.{TruthStands, HasLooked}
-use Rattle.edition_log.specs.EditionState.{IsEditionOf}
+use Rattle.edition_log.specs.Entered.{IsAsOpened}
 use Rattle.disk_ring.specs.Sender.{Sender}
 use Rattle.disk_ring.specs.Receiver.{Receiver}
 use Rattle.piece_item.specs.declared.item.Item.{Item}
@@ -36,8 +36,8 @@ IsTrueOfAll edits depth plays journal = (t : ℕ) (r : Receiver Item) → slice_
 
 -- The engine runs this session, whatever its calls have answered so far.
 pub record Runs {V W : Type 0} (s : Session) (c : Core V W) : Type 0 where
-  -- in an edition of it, whose transport doesn't record and hasn't quit
-  pub edition_of : IsEditionOf s c.edition
+  -- in an edition of it that left it as it was opened, whose transport doesn't record and hasn't quit
+  pub edition_of : IsAsOpened s c.edition
   pub recording : c.edition.transport.recording ≡ false
   pub quit : c.edition.transport.quit ≡ false
   pub serving : IsServing s c.edition.edits c.butler

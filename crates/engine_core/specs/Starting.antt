@@ -1,5 +1,5 @@
 -- What a run starts with, and what it has then.
-use Rattle.std.specs.Prelude.{◌≡◌, ℕ, ◌≤◌, true, false, List, [], length, slice_get, Some}
+use Rattle.std.specs.Prelude.{◌≡◌, ℕ, ◌≤◌, true, false, [], length, slice_get, Some}
 use Rattle.session_model.specs.declared.session.Session.{Session}
 use Rattle.engine_model.specs.Edits.{playlist_edition}
 use Rattle.engine_model.specs.PlainSession.{is_plain}
@@ -7,7 +7,8 @@ use Rattle.audio_source.specs.Opened.{IsListed}
 use Rattle.audio_source.specs.Lines.{SourcesState}
 use Rattle.audio_source.specs.Told.{source_sound}
 use Rattle.ses_io.specs.Outside.{MediaOutside, SinkOutside}
-use Rattle.edition_log.specs.EditionState.{EditionState as Edition, IsEditionOf}
+use Rattle.edition_log.specs.EditionState.{EditionState as Edition}
+use Rattle.edition_log.specs.Entered.{IsAsOpened}
 use Rattle.disk_ring.specs.Sender.{Sender}
 use Rattle.piece_item.specs.declared.item.Item.{Item}
 use Rattle.process_cycle.specs.declared.finished.Faults.{Faults}
@@ -46,7 +47,8 @@ pub record IsTold {V W : Type 0} (outside : MediaOutside V) (sink : SinkOutside 
 pub record MayStart (s : Session) (e : Edition) (sources : SourcesState) (cycles : ℕ) : Type 0 where
   -- the session is of those that are played so far
   pub plain : is_plain s ≡ true
-  pub edition_of : IsEditionOf s e
+  -- the edition left it as it was opened
+  pub edition_of : IsAsOpened s e
   -- its transport doesn't record and hasn't quit
   pub recording : e.transport.recording ≡ false
   pub quit : e.transport.quit ≡ false

@@ -2,18 +2,18 @@
 ghost use Rattle.std.specs.Prelude.{◌≡◌, [], IsTrue};
 ghost use Rattle.engine_core.specs.Begun.{Begun};
 ghost use Rattle.edition_log.specs.EditionState.{IsEditionOf, IsOpen};
-ghost use Rattle.edition_log.specs.Built.{is_built};
-ghost use Rattle.engine_core.specs.Control.{Obeys, IsControlled};
+ghost use Rattle.edition_log.specs.Entered.{IsAsOpened};
+ghost use Rattle.engine_core.specs.Control.{is_of_export, Obeys, IsControlled};
 
 use edition_log::Edition;
 use process_cycle::Script;
 use session_model::Edit;
 
-/// One control line: its edit is accepted, or refused and nothing changes.
+/// One control line of an export: its edit is accepted, or refused and nothing changes.
 pub(crate) fn obey(edition: &mut Edition, edit: &Edit)
     ghost begun: { Begun }
-    requires of { IsEditionOf begun.session edition.old }
-    requires built { IsTrue (is_built edit.now) }
+    requires of { IsAsOpened begun.session edition.old }
+    requires of_export { IsTrue (is_of_export edit.now) }
     requires open { IsOpen edition.old }
     ensures obeys { Obeys begun.session edition.old edit.now edition.new }
     ensures still_open { IsOpen edition.new }

@@ -18,8 +18,9 @@ use Rattle.engine_model.specs.PlainSession.{is_plain}
 use Rattle.piece_item.specs.declared.item.Item.{Item}
 use Rattle.piece_item.specs.declared.ack.Ack.{Ack}
 use Rattle.piece_item.specs.declared.butler_ends.ButlerEnds.{ButlerEnds}
-use Rattle.edition_log.specs.EditionState.{EditionState as Edition, IsEditionOf}
-use Rattle.edition_log.specs.Entered.{Entered}
+use Rattle.edition_log.specs.EditionState.{EditionState as Edition}
+use Rattle.edition_log.specs.Entered.{Entered, IsAsOpened}
+use Rattle.edition_log.proofs.AsOpenedLemmas.{as_opened_first}
 use Rattle.butler.specs.ButlerState.{ButlerState}
 use Rattle.butler.specs.Serving.{IsNewSender, IsServing, MayBegin}
 use Rattle.butler.specs.Turns.{Enters}
@@ -28,10 +29,8 @@ use Rattle.session_opening.specs.declared.loading.Loaded.{Loaded}
 use Rattle.session_opening.specs.Answers.{IsLoaded}
 use Rattle.process_cycle.specs.declared.ends.ProcessEnds.{ProcessEnds}
 use Rattle.process_cycle.specs.Answers.{MayLook}
-use Rattle.process_cycle.specs.Cycles.{AllLooked}
 use Rattle.process_cycle.specs.Ends.{AreNew, IsNewIn, IsNewOut, block_of}
-use Rattle.process_cycle.specs.Made.{MayCycle, HasBegun}
-use Rattle.process_cycle.specs.Playing.{IsPlaying, position_of}
+use Rattle.process_cycle.specs.Playing.{IsPlaying}
 use Rattle.process_cycle.specs.ProcessState.{ProcessState}
 use Rattle.engine_tests.specs.Bench.{entered_by, IsPair, IsOpening, AreNewEnds, AreTwoEnds, AreTwoRings, IsServed, IsPlayed}
 
@@ -75,7 +74,7 @@ pub may_begin : (o : Loaded) (cycles : ℕ) (ends : ButlerEnds) → IsLoaded o �
     AreNewEnds o.edition.session.depth o.edition.session.block ends → MayBegin o.edition.session o.edition o.sources.opened cycles ends
 may_begin o cycles ends loaded some near three new = let s = o.edition.session in let many = new.three in record {
   plain = loaded.plain;
-  edition_of = loaded.edition;
+  edition_of = as_opened_first o.edition.session o.edition loaded.edition loaded.edits;
   sources_of = loaded.listed;
   some_cycle = omega arith;
   near = near;
@@ -94,7 +93,7 @@ pub served_first : {V : Type 0} (o : Loaded) (b : ButlerState V) (block : ℕ) (
 served_first o b block plays acks loaded serving wide rooms new = record {
   few = omega arith;
   serving = subst (λ xs. IsServing o.edition.session xs b) (loaded.edits) serving;
-  edition_of = loaded.edition;
+  edition_of = as_opened_first o.edition.session o.edition loaded.edition loaded.edits;
   rooms = subst (λ n. All (λ r. r.room ≡ n) plays) (sym wide) rooms;
   acks_room = new.room;
   acks_open = new.closed;
@@ -116,11 +115,11 @@ module _ {V : Type 0} (b : ButlerState V) (e : Edition) (n block : ℕ) (plays :
   }
 
   -- the edition goes on
-  pub served_still : (e' : Edition) → IsEditionOf e.session e' → IsPrefix e.edits e'.edits → IsServed b e' n block plays acks
+  pub served_still : (e' : Edition) → IsAsOpened e.session e' → IsPrefix e.edits e'.edits → IsServed b e' n block plays acks
   served_still e' edition more = let session = session_is e.session e' edition in record {
     few = few_still n e.edits e'.edits is.few more;
     serving = subst (λ s. IsServing s (take n e'.edits) b) (sym session) (subst (λ xs. IsServing e.session xs b) (sym (front_stays n e.edits e'.edits is.few more)) is.serving);
-    edition_of = subst (λ s. IsEditionOf s e') (sym session) edition;
+    edition_of = subst (λ s. IsAsOpened s e') (sym session) edition;
     rooms = is.rooms;
     acks_room = is.acks_room;
     acks_open = is.acks_open;
@@ -149,7 +148,7 @@ played_first e p first second ends opening rings playing = record {
   few = omega arith;
   plain = opening.plain;
   playing = playing;
-  edition_of = opening.edition_of;
+  edition_of = as_opened_first e.session e opening.edition_of opening.no_edit;
   first_room = rings.first.room;
   second_room = rings.second.room;
   first_open = λ _. rings.first.closed;
@@ -158,7 +157,7 @@ played_first e p first second ends opening rings playing = record {
 
 module _ {W : Type 0} (p : ProcessState W) (e : Edition) (n : ℕ) (a b : Sender Item) (over : Bool) (is : IsPlayed p e n a b over) where
   pub may_look : (at : Entered) → entered_by e n ≡ at → MayLook at p e
-  may_look at same = subst (λ (x : Entered). MayLook x p e) same record { playing = is.playing; edition = is.edition_of; more = front n e.edits }
+  may_look at same = subst (λ (x : Entered). MayLook x p e) same record { playing = is.playing; edition = is.edition_of.edition_of; more = front n e.edits }
 
   pub plays_plainly : (at : Entered) → entered_by e n ≡ at → is_plain at.session ≡ true
   plays_plainly at same = subst (λ (x : Entered). is_plain x.session ≡ true) same is.plain
@@ -193,12 +192,12 @@ module _ {W : Type 0} (p : ProcessState W) (e : Edition) (n : ℕ) (a b : Sender
   }
 
   -- the edition goes on
-  pub played_on : (e' : Edition) → IsEditionOf e.session e' → IsPrefix e.edits e'.edits → IsPlayed p e' n a b over
+  pub played_on : (e' : Edition) → IsAsOpened e.session e' → IsPrefix e.edits e'.edits → IsPlayed p e' n a b over
   played_on e' edition more = let session = session_is e.session e' edition in record {
     few = few_still n e.edits e'.edits is.few more;
     plain = subst (λ s. is_plain s ≡ true) (sym session) is.plain;
     playing = subst (λ s. IsPlaying s (take n e'.edits) p) (sym session) (subst (λ xs. IsPlaying e.session xs p) (sym (front_stays n e.edits e'.edits is.few more)) is.playing);
-    edition_of = subst (λ s. IsEditionOf s e') (sym session) edition;
+    edition_of = subst (λ s. IsAsOpened s e') (sym session) edition;
     first_room = is.first_room;
     second_room = is.second_room;
     first_open = is.first_open;

@@ -10,7 +10,7 @@ use Rattle.piece_item.specs.declared.item.Item.{Item}
 use Rattle.piece_item.specs.declared.ack.Ack.{Ack}
 use Rattle.piece_item.specs.declared.butler_ends.ButlerEnds.{ButlerEnds}
 use Rattle.edition_log.specs.EditionState.{EditionState as Edition, IsEditionOf}
-use Rattle.edition_log.specs.Entered.{Entered}
+use Rattle.edition_log.specs.Entered.{Entered, IsAsOpened}
 use Rattle.butler.specs.ButlerState.{ButlerState}
 use Rattle.butler.specs.Serving.{IsServing}
 use Rattle.process_cycle.specs.declared.ends.ProcessEnds.{ProcessEnds}
@@ -66,7 +66,7 @@ pub record AreTwoRings (one other : Sender Item) (process : ProcessEnds) : Type 
 pub record IsServed {V : Type 0} (b : ButlerState V) (e : Edition) (entered block : ℕ) (plays : List (Receiver Item)) (acks : Sender Ack) : Type 0 where
   pub few : entered ≤ length e.edits
   pub serving : IsServing e.session (take entered e.edits) b
-  pub edition_of : IsEditionOf e.session e
+  pub edition_of : IsAsOpened e.session e
   pub rooms : All (λ r. r.room ≡ block) plays
   pub acks_room : acks.room ≡ 0
   pub acks_open : acks.closed ≡ false
@@ -76,7 +76,7 @@ pub record IsPlayed {W : Type 0} (p : ProcessState W) (e : Edition) (entered : �
   pub few : entered ≤ length e.edits
   pub plain : is_plain e.session ≡ true
   pub playing : IsPlaying e.session (take entered e.edits) p
-  pub edition_of : IsEditionOf e.session e
+  pub edition_of : IsAsOpened e.session e
   pub first_room : first.room ≡ 1
   pub second_room : second.room ≡ 1
   pub first_open : over ≡ false → first.closed ≡ false

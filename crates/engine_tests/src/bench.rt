@@ -2,7 +2,7 @@
 ghost use Rattle.std.specs.Prelude.{◌≡◌, ◌<◌, length, IfSome};
 ghost use mathlib.Core.List.{IsPrefix};
 ghost use Rattle.session_model.specs.declared.session.Session.{Session as Opening};
-ghost use Rattle.edition_log.specs.EditionState.{IsEditionOf};
+ghost use Rattle.edition_log.specs.Entered.{IsAsOpened};
 ghost use Rattle.session_opening.specs.Answers.{IsLoaded};
 ghost use Rattle.engine_tests.specs.Bench.{IsOpening};
 
@@ -105,7 +105,7 @@ pub(crate) fn opening(alloc: Global, files: &[File], tracks: usize) -> Option<Ed
 
 /// Takes an edit in, where one may follow.
 pub(crate) fn carry_out(e: &mut Edition, edit: Edit) -> Option<Result<u32, Refusal>>
-    ensures stays { (s : Opening) → IsEditionOf s e.old → IsEditionOf s e.new }
+    ensures stays { (s : Opening) → IsAsOpened s e.old → IsAsOpened s e.new }
     ensures more { IsPrefix e.old.edits e.new.edits }
 {
     match edit {

@@ -4,6 +4,7 @@ mod extensible;
 mod migrated;
 mod played;
 mod refused;
+mod rendered;
 mod row;
 
 use crate::bench::{block_range, failing_media, row_holds};
@@ -13,6 +14,7 @@ use extensible::EXTENSIBLE;
 use migrated::{MIGRATED, UNBUILT};
 use played::PLAYED;
 use refused::REFUSED;
+use rendered::RENDERED;
 use row::{Ends, Row};
 use ses_io::{MemMedia, MemSink, MemSource, NoMemory, World};
 use ses_units::Name;
@@ -149,6 +151,13 @@ fn each_export_leaves_what_was_worked_out(rt: HostRuntime) {
 #[test]
 fn each_check_counts_the_parts_or_says_what_is_wrong(rt: HostRuntime) {
     for (at, row) in CHECKED.iter().enumerate() {
+        row_holds(&rt, at, is_right(&rt, rt.alloc(), row) == Ok(true));
+    }
+}
+
+#[test]
+fn each_render_leaves_what_was_worked_out(rt: HostRuntime) {
+    for (at, row) in RENDERED.iter().enumerate() {
         row_holds(&rt, at, is_right(&rt, rt.alloc(), row) == Ok(true));
     }
 }

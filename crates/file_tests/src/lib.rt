@@ -1,10 +1,15 @@
-//! Values from outside for WAV files, the parts of sessions, their texts, and the lines of errors.
+//! Values from outside for WAV files, the parts of sessions, their texts, the lines of errors, and reports,
+//! written and read.
 #![tactic(auto)]
 
 #[cfg(test)]
 mod error_lines;
 #[cfg(test)]
 mod parts;
+#[cfg(test)]
+mod reports;
+#[cfg(test)]
+mod reports_read;
 #[cfg(test)]
 mod session_parts;
 #[cfg(test)]

@@ -17,7 +17,7 @@ use Rattle.engine_laws.specs.JournalInvariant.{no_takes}
 use Rattle.engine_laws.proofs.EntryNotesLemmas.{entry_fits, none_fit}
 use Rattle.engine_laws.proofs.PlainSessionLemmas.{item_at}
 use Rattle.edition_log.specs.EditionState.{EditionState as Edition}
-use Rattle.edition_log.proofs.PlayLaws.{editions_play_their_places, stands_at}
+use Rattle.edition_log.proofs.PlayLaws.{editions_play_their_places}
 use Rattle.disk_ring.specs.Receiver.{Receiver}
 use Rattle.piece_item.specs.declared.item.Item.{Item}
 use Rattle.cycle_journal.specs.declared.entry.Entry.{Entry}
@@ -71,7 +71,7 @@ module _ {W : Type 0} (heard : Heard) (e : Edition) (p : ProcessState W) (may : 
     plain = may.plain;
     frames = sym may.playing.block;
     count = sym may.playing.plays ∙ ap length (sym hears.plays);
-    stands = subst (λ edits. (edition heard.session edits (length edits)).session ≡ heard.session) (sym hears.edits) (stands_at heard.session e (length e.edits) may.edition);
+    stands = subst (λ edits. (edition heard.session edits (length edits)).session ≡ heard.session) (sym hears.edits) (may.edition.stands (length e.edits));
   }
 
   pub few_tracks : (playbacks : List TrackPlayback) → playbacks ≡ p.playbacks → length playbacks ≤ 32
@@ -88,7 +88,7 @@ module _ {W : Type 0} (heard : Heard) (e : Edition) (p : ProcessState W) (may : 
         notes = notes_of (state_of rolling g n tracks) tracks (replicate many engine.Off);
       } in
       x_is ∙ ap (entry_made number rolling (position_of p)) hears.plays ∙ ap (λ k. made k rolling p.generation p.next many) number_is
-      ∙ ap (λ b. made r b p.generation p.next many) (rolling_is ∙ ap (λ k. k.transport.rolling) may.edition.state)
+      ∙ ap (λ b. made r b p.generation p.next many) (rolling_is ∙ ap (λ k. k.transport.rolling) may.edition.edition_of.state)
       ∙ ap (λ n. made r rolls p.generation n many) (may.playing.next ∙ ap (λ k. rolled k (entries_of p)) generation_is)
       ∙ ap (λ k. made r rolls k (rolled h (entries_of p)) many) generation_is
       ∙ ap (made r rolls h (rolled h (entries_of p))) may.playing.plays
@@ -101,9 +101,9 @@ module _ {W : Type 0} (heard : Heard) (e : Edition) (p : ProcessState W) (may : 
 
 pub it_fits : {W : Type 0} (s : Session) (e : Edition) (p : ProcessState W) → MayCycle s e p → fits s e.edits (entries_of p) (next_entry s e p) ≡ true
 it_fits s e p may = entry_fits s e.edits (length e.edits) (map received_kinds p.ends.plays.items) (no_takes s) (entries_of p) (omega arith) many
-    (length-replicate (length s.tracks.items) engine.Off ∙ sym many) (sym (editions_play_their_places s e may.edition).quit ∙ may.quit)
+    (length-replicate (length s.tracks.items) engine.Off ∙ sym many) (sym (editions_play_their_places s e may.edition.edition_of).quit ∙ may.quit)
     (none_fit (edition s e.edits (length e.edits)) (is_rolling (next_entry s e p).state) (entries_of p) 0 (length s.tracks.items)
-    (sym (ap (λ k. k.transport.recording) may.edition.state) ∙ may.recording))
+    (sym (ap (λ k. k.transport.recording) may.edition.edition_of.state) ∙ may.recording))
   where
     many : length (map received_kinds p.ends.plays.items) ≡ length s.tracks.items
     many = length-map p.ends.plays.items received_kinds ∙ may.playing.plays

@@ -9,7 +9,8 @@ use Rattle.engine_model.specs.Fits.{fits}
 use Rattle.engine_model.specs.Mixed.{mixed}
 use Rattle.engine_model.specs.PlainSession.{is_plain}
 use Rattle.engine_laws.specs.JournalInvariant.{no_takes}
-use Rattle.edition_log.specs.EditionState.{EditionState as Edition, IsEditionOf}
+use Rattle.edition_log.specs.EditionState.{EditionState as Edition}
+use Rattle.edition_log.specs.Entered.{IsAsOpened}
 use Rattle.disk_ring.specs.Sender.{Sender, Puts, Refuses}
 use Rattle.piece_item.specs.declared.ack.Ack.{Ack}
 use Rattle.cycle_journal.specs.declared.entry.Entry.{Entry}
@@ -51,7 +52,8 @@ pub record MayCycle {W : Type 0} (s : Session) (e : Edition) (p : ProcessState W
   -- the session is of those that are played so far
   pub plain : is_plain s ≡ true
   pub playing : IsPlaying s e.edits p
-  pub edition : IsEditionOf s e
+  -- the edition left the session as it was opened
+  pub edition : IsAsOpened s e
   -- each track was looked at
   pub looked : AllLooked (position_of p) p.playbacks
   -- there is room for an entry

@@ -37,7 +37,8 @@ fn give_to(s: &Session, route: &Route, to: u32, samples: &[i32], gain: Gain, sum
     requires near { AllNear (2 ^ 48) (slice_index_or sums.old to []) }
     ensures fed { IsFed route.now (channels_at s.now to) gain samples.now
         (slice_index_or sums.old to []) (slice_index_or sums.new to []) }
-    ensures others { (r : ℕ) → r ≢ to → slice_index_or sums.new r [] ≡ slice_index_or sums.old r [] }
+    ensures others { (r : ℕ) → r ≢ to
+        → slice_index_or sums.new r [] ≡ slice_index_or sums.old r [] }
     ensures sizes { HaveSizes s.now sums.new }
     ensures near { GoesOn (2 ^ 35) (slice_index_or sums.old to []) (slice_index_or sums.new to []) }
 {

@@ -3,7 +3,7 @@ use Rattle.std.proofs.Common.{◌≡◌, ℕ, refl, List, [], ◌∷◌, Option,
 use Rattle.std.specs.Prelude.{Err}
 use Rattle.session_model.specs.declared.refusal.SessionRefusal.TheVariants.{Absent}
 use Rattle.session_opening.specs.Plan.{SessionRefused, plan_of_export, read_session, session_in, session_plan}
-use Rattle.session_opening.specs.Words.{ToExport, ToMigrate, ToCheck, command, positional, export_of}
+use Rattle.session_opening.specs.Words.{ToExport, ToMigrate, ToCheck, ToRender, command, positional, export_of, render_of}
 
 -- no files
 abbrev nothing : List ℕ → Option (List ℕ)
@@ -60,6 +60,26 @@ a_check_of_two = refl
 a_check_of_a_path : command (codes "check" ∷ codes "../s.toml" ∷ []) ≡ None
 unfolding positional
 a_check_of_a_path = refl
+
+of_a_render : command (codes "render" ∷ codes "s.toml" ∷ codes "2" ∷ codes "3" ∷ []) ≡ Some (ToRender (record { session = codes "s.toml"; from = 2; frames = 3 }))
+unfolding positional render_of
+of_a_render = refl
+
+the_most_frames : command (codes "render" ∷ codes "s.toml" ∷ codes "1099511627775" ∷ codes "409600000" ∷ []) ≡ Some (ToRender (record { session = codes "s.toml"; from = 1099511627775; frames = 409600000 }))
+unfolding positional render_of
+the_most_frames = refl
+
+a_frame_too_many : command (codes "render" ∷ codes "s.toml" ∷ codes "0" ∷ codes "409600001" ∷ []) ≡ None
+unfolding positional render_of
+a_frame_too_many = refl
+
+no_frames : command (codes "render" ∷ codes "s.toml" ∷ codes "0" ∷ codes "0" ∷ []) ≡ None
+unfolding positional render_of
+no_frames = refl
+
+too_far : command (codes "render" ∷ codes "s.toml" ∷ codes "1099511627776" ∷ codes "1" ∷ []) ≡ None
+unfolding positional render_of
+too_far = refl
 
 no_file : session_plan nothing (codes "s.toml") ≡ Err (SessionRefused Absent)
 unfolding session_plan read_session

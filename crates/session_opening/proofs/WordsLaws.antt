@@ -5,7 +5,7 @@ use Rattle.std.proofs.lemmas.List.{drop_all}
 use Rattle.std.specs.Option.{option_map, option_and_then}
 use Rattle.session_opening.specs.declared.words.Positionals as code_words
 use Rattle.session_opening.specs.Spoken.{texts, words_with}
-use Rattle.session_opening.specs.Words.{Command, ToMigrate, ToCheck, command, is_option, few, named, export_by, session_by, positional, words_after}
+use Rattle.session_opening.specs.Words.{Command, ToMigrate, ToCheck, command, is_option, few, named, export_by, render_by, session_by, positional, words_after}
 
 -- the marker
 pub marker_seen : (found rest : List (List ℕ)) (w : List ℕ) → bytes_eq w (codes "--") ≡ true → few (words_after false found (w ∷ rest)) ≡ few (words_after true found rest)
@@ -62,11 +62,12 @@ pub over : (all : code_words.Positionals) (words : List (Bor (List ℕ))) (i : �
     few (positional (texts words)) ≡ few (Some (texts all.found.items))
 over all words i past is = is ∙ ap (λ ws. few (words_with all (texts ws))) (drop_all i words past) ∙ all_seen all.marked (texts all.found.items)
 
-whichever : (b c d : Bool) (answer : Option Command) → cond b answer (cond c answer (cond d answer answer)) ≡ answer
-whichever true c d answer = refl
-whichever false true d answer = refl
-whichever false false true answer = refl
-whichever false false false answer = refl
+whichever : (b c d e : Bool) (answer : Option Command) → cond b answer (cond c answer (cond d answer (cond e answer answer))) ≡ answer
+whichever true c d e answer = refl
+whichever false true d e answer = refl
+whichever false false true e answer = refl
+whichever false false false true answer = refl
+whichever false false false false answer = refl
 
 -- no command has more than three words
 pub few_for_all : (name : List ℕ) (o : Option (List (List ℕ))) → option_and_then (named name) (few o) ≡ option_and_then (named name) o
@@ -75,7 +76,7 @@ few_for_all name (Some []) = refl
 few_for_all name (Some (a ∷ [])) = refl
 few_for_all name (Some (a ∷ b ∷ [])) = refl
 few_for_all name (Some (a ∷ b ∷ c ∷ [])) = refl
-few_for_all name (Some (a ∷ b ∷ c ∷ d ∷ ws)) = sym (whichever (bytes_eq name (codes "export")) (bytes_eq name (codes "migrate")) (bytes_eq name (codes "check")) None)
+few_for_all name (Some (a ∷ b ∷ c ∷ d ∷ ws)) = sym (whichever (bytes_eq name (codes "export")) (bytes_eq name (codes "migrate")) (bytes_eq name (codes "check")) (bytes_eq name (codes "render")) None)
 
 -- the command of a name and the positional words behind it
 pub named_by : (w : List ℕ) (ws found : List (List ℕ)) → few (Some found) ≡ few (positional ws) → command (w ∷ ws) ≡ named w found
@@ -91,3 +92,7 @@ migrate_named w found not_export is = rw (not_export, is) refl
 pub check_named : (w : List ℕ) (found : List (List ℕ)) → bytes_eq w (codes "export") ≡ false → bytes_eq w (codes "migrate") ≡ false → bytes_eq w (codes "check") ≡ true →
     named w found ≡ option_map ToCheck (session_by found)
 check_named w found not_export not_migrate is = rw (not_export, not_migrate, is) refl
+
+pub render_named : (w : List ℕ) (found : List (List ℕ)) → bytes_eq w (codes "export") ≡ false → bytes_eq w (codes "migrate") ≡ false → bytes_eq w (codes "check") ≡ false →
+    bytes_eq w (codes "render") ≡ true → named w found ≡ render_by found
+render_named w found not_export not_migrate not_check is = rw (not_export, not_migrate, not_check, is) refl

@@ -55,26 +55,46 @@ pub record Export : Type 0 where
   pub from : ℕ
   pub cycles : ℕ
 
+-- `render S FROM FRAMES`
+pub record Render : Type 0 where
+  -- the name of the session's file
+  pub session : List ℕ
+  -- the first position, in frames
+  pub from : ℕ
+  pub frames : ℕ
+
 pub data Command : Type 0 where
   ToExport : Export → Command
   -- `migrate S`, by the name of the session's file
   ToMigrate : List ℕ → Command
   -- `check S`, by the same
   ToCheck : List ℕ → Command
+  ToRender : Render → Command
 
-abbrev pub both_in : List ℕ → Option ℕ → Option ℕ → Option Export
-both_in session None cycles = None
-both_in session (Some from) None = None
-both_in session (Some from) (Some cycles) = Some (record { session = session; from = from; cycles = cycles })
+-- what two numbers make, where both are there
+abbrev pub both_in : {A : Type 0} → (ℕ → ℕ → A) → Option ℕ → Option ℕ → Option A
+both_in make None n = None
+both_in make (Some m) None = None
+both_in make (Some m) (Some n) = Some (make m n)
 
 -- a file's name, a position below 2^40, and 1 to 100,000 cycles
 unfoldable pub export_of : List ℕ → List ℕ → List ℕ → Option Export
-export_of session from cycles = if is_file_name session then both_in session (within 0 1099511627775 (number from)) (within 1 100000 (number cycles)) else None
+export_of session from cycles = if is_file_name session
+    then both_in (λ m n. record { session = session; from = m; cycles = n }) (within 0 1099511627775 (number from)) (within 1 100000 (number cycles)) else None
+
+-- a file's name, a position below 2^40, and 1 to 409,600,000 frames
+unfoldable pub render_of : List ℕ → List ℕ → List ℕ → Option Render
+render_of session from frames = if is_file_name session
+    then both_in (λ m n. record { session = session; from = m; frames = n }) (within 0 1099511627775 (number from)) (within 1 409600000 (number frames)) else None
 
 -- three words
 abbrev pub export_by : List (List ℕ) → Option Command
 export_by (session ∷ from ∷ cycles ∷ []) = option_map ToExport (export_of session from cycles)
 export_by _ = None
+
+abbrev pub render_by : List (List ℕ) → Option Command
+render_by (session ∷ from ∷ frames ∷ []) = option_map ToRender (render_of session from frames)
+render_by _ = None
 
 -- one word, a file's name
 abbrev pub session_by : List (List ℕ) → Option (List ℕ)
@@ -85,7 +105,8 @@ session_by _ = None
 abbrev pub named : List ℕ → List (List ℕ) → Option Command
 named name words = if bytes_eq name (codes "export") then export_by words
     else (if bytes_eq name (codes "migrate") then option_map ToMigrate (session_by words)
-    else (if bytes_eq name (codes "check") then option_map ToCheck (session_by words) else None))
+    else (if bytes_eq name (codes "check") then option_map ToCheck (session_by words)
+    else (if bytes_eq name (codes "render") then render_by words else None)))
 
 -- the command that the words are
 abbrev pub command : List (List ℕ) → Option Command

@@ -10,6 +10,16 @@ pub struct Export<'a> {
     pub cycles: u32,
 }
 
+/// The words of `render S FROM FRAMES`.
+#[derive(Clone, Copy, Debug)]
+pub struct Render<'a> {
+    /// The name of the session's file.
+    pub session: &'a str,
+    /// The first position, in frames.
+    pub from: u64,
+    pub frames: u32,
+}
+
 /// What the words ask for.
 #[derive(Clone, Copy, Debug)]
 pub enum Command<'a> {
@@ -24,4 +34,5 @@ pub enum Command<'a> {
         /// The name of the session's file.
         session: &'a str,
     },
+    Render(Render<'a>),
 }

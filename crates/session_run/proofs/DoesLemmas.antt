@@ -8,13 +8,14 @@ use Rattle.cycle_journal.specs.declared.status.Status.TheVariants.{Done, Usage, 
 use Rattle.engine_core.specs.Passed.{AllStayOpen}
 use Rattle.session_opening.specs.Answers.{Caused, Refuses}
 use Rattle.session_opening.specs.Plan.{plan_of_export}
-use Rattle.session_opening.specs.Words.{Command, Export, ToExport, ToMigrate, ToCheck}
+use Rattle.session_opening.specs.Words.{Command, Export, Render, ToExport, ToMigrate, ToCheck, ToRender}
 use Rattle.session_opening.specs.declared.unopened.Unopened.{Unopened}
 use Rattle.session_run.specs.declared.outcome.Outcome.{Outcome}
 use Rattle.session_run.specs.Carried.{CarriesOut}
-use Rattle.session_run.specs.Headline.{EndsAsAsked, IsNoExport, PlaysTheExport, PlaysAnExport}
+use Rattle.session_run.specs.Headline.{EndsAsAsked, LeavesTheMaster, MasterIsAsAsked, PlaysAnExport}
+use Rattle.session_run.specs.Rendered.{GetsTheRender}
 use Rattle.session_run.specs.Replied.{IsOwnText, WritesItsOwn}
-use Rattle.session_run.specs.Status.{IsStatusOf, PlaysAsAsked, ReadsFailed, WritesFailed, status_of}
+use Rattle.session_run.specs.Status.{IsOfRender, IsStatusOf, PlaysAsAsked, ReadsFailed, WritesFailed, status_of}
 use Rattle.session_run.proofs.OutLemmas.{none_written}
 use Rattle.session_run.proofs.PlayedLemmas as plays
 use Rattle.session_run.proofs.PlayedLemmas.{Exports}
@@ -37,32 +38,35 @@ append_none [] = refl
 append_none (x ∷ xs) = ap (λ ys. x ∷ ys) (append_none xs)
 
 -- a count that is as it was
-kept : (fault : Status) (before now : ℕ) (s : Status) → (s ≡ fault → ⊥) → now ≡ before → WritesFailed fault before now s
+pub kept : (fault : Status) (before now : ℕ) (s : Status) → (s ≡ fault → ⊥) → now ≡ before → WritesFailed fault before now s
 kept fault before now s not same = record { cause = λ is. absurd (not is); same = λ _. same; later = omega (arith, same) }
 
 module _ {M I C W O : Type 0} (outside : MediaOutside M) (sink : SinkOutside W) (out : SinkOutside O) (old : World M I C W O) (new : Outcome M I C W O) where
-  -- ---- what is no export
+  -- ---- what leaves the master alone
 
-  not_played : (asked : Option Command) → IsNoExport asked → new.journal ≡ None → PlaysTheExport outside sink old asked new
+  not_played : (asked : Option Command) → LeavesTheMaster asked → new.journal ≡ None → MasterIsAsAsked outside sink old asked new
   not_played (Some (ToExport e)) other journal = absurd other
   not_played (Some (ToMigrate name)) other journal = journal
   not_played (Some (ToCheck name)) other journal = journal
+  not_played (Some (ToRender r)) other journal = absurd other
   not_played None other journal = journal
 
-  not_alone : (asked : Option Command) → IsNoExport asked → new.journal ≡ None → PlaysAnExport sink old asked new
+  not_alone : (asked : Option Command) → LeavesTheMaster asked → new.journal ≡ None → PlaysAnExport sink old asked new
   not_alone (Some (ToExport e)) other journal = absurd other
   not_alone (Some (ToMigrate name)) other journal = journal
   not_alone (Some (ToCheck name)) other journal = journal
+  not_alone (Some (ToRender r)) other journal = absurd other
   not_alone None other journal = journal
 
-  no_rings : (asked : Option Command) → IsNoExport asked → new.journal ≡ None → new.rings.items ≡ [] → new.acks ≡ None → PlaysAsAsked old asked new
+  no_rings : (asked : Option Command) → LeavesTheMaster asked → new.journal ≡ None → new.rings.items ≡ [] → new.acks ≡ None → PlaysAsAsked old asked new
   no_rings (Some (ToExport e)) other journal rings acks = absurd other
   no_rings (Some (ToMigrate name)) other journal rings acks = record { journal = journal; rings = rings; acks = acks }
   no_rings (Some (ToCheck name)) other journal rings acks = record { journal = journal; rings = rings; acks = acks }
+  no_rings (Some (ToRender r)) other journal rings acks = absurd other
   no_rings None other journal rings acks = record { journal = journal; rings = rings; acks = acks }
 
   -- what reads the media and writes to out alone
-  pub of_unplayed : (asked : Option Command) → IsNoExport asked → (media : M) (o : O) (s : Status) → (outside.tells → EndsAsAsked outside old asked s) → IsStatusOf asked s → (s ≡ MasterFault → ⊥) →
+  pub of_unplayed : (asked : Option Command) → LeavesTheMaster asked → (media : M) (o : O) (s : Status) → (outside.tells → EndsAsAsked outside old asked s) → IsStatusOf asked s → (s ≡ MasterFault → ⊥) →
       WritesItsOwn out (IsOwnText outside old.media asked) old.out o s → ReadsFailed (outside.read_faults old.media) (outside.read_faults media) s → WritesFailed OutFault (out.faults old.out) (out.faults o) s →
       OnlyReads outside old.media media → new.status ≡ s → new.world ≡ record old { media = media; out = o } → new.journal ≡ None → new.rings.items ≡ [] → new.acks ≡ None →
       CarriesOut outside sink out old asked new
@@ -73,7 +77,7 @@ module _ {M I C W O : Type 0} (outside : MediaOutside M) (sink : SinkOutside W) 
       record {
         ends = λ t. subst (EndsAsAsked outside old asked) (sym says) (ends t);
         status = subst (IsStatusOf asked) (sym says) of;
-        export = λ t. not_played asked other journal;
+        sounds = λ t. not_played asked other journal;
         alone = not_alone asked other journal;
         own = subst (λ (q : O). WritesItsOwn out (IsOwnText outside old.media asked) old.out q new.status) (sym out_is) (subst (WritesItsOwn out (IsOwnText outside old.media asked) old.out o) (sym says) own);
         silent = λ some. absurd (some other);
@@ -95,23 +99,55 @@ module _ {M I C W O : Type 0} (outside : MediaOutside M) (sink : SinkOutside W) 
       (status.quiet (outside.read_faults old.media) (outside.read_faults old.media) Usage refl usage_read)
       (kept OutFault (out.faults old.out) (out.faults old.out) Usage usage_out refl) (record { files = refl; other_count = refl }) says world
 
-  -- ---- an export
+  -- ---- what writes nothing to out
 
-  -- it writes nothing to out
-  nothing_said : (e : Export) → (new.status ≡ OutFault → ⊥) → new.world.out ≡ old.out → WritesItsOwn out (IsOwnText outside old.media (Some (ToExport e))) old.out new.world.out new.status
-  nothing_said e not_out same = record {
-    done = λ _. ([], refl, record { held = λ t. ap (λ (o : O). out.held o) same ∙ append_none (out.held old.out); fine = ap (λ (o : O). out.faults o) same });
+  nothing_said : (asked : Option Command) → IsOwnText outside old.media asked [] → (new.status ≡ OutFault → ⊥) → new.world.out ≡ old.out → WritesItsOwn out (IsOwnText outside old.media asked) old.out new.world.out new.status
+  nothing_said asked is_own not_out same = record {
+    done = λ _. ([], is_own, record { held = λ t. ap (λ (o : O). out.held o) same ∙ append_none (out.held old.out); fine = ap (λ (o : O). out.faults o) same });
     cut_off = λ is. absurd (not_out is);
     nothing = λ _ _. same;
   }
+
+  -- a render, which reads the media and writes to the master alone
+  pub of_render : (r : Render) (media : M) (master : W) (s : Status) → (outside.tells → EndsAsAsked outside old (Some (ToRender r)) s) → IsOfRender s → (outside.tells → GetsTheRender outside old.media sink r old.master master s) →
+      ((s ≡ Done → ⊥) → (s ≡ MasterFault → ⊥) → (s ≡ ReadFault → ⊥) → master ≡ old.master) → ReadsFailed (outside.read_faults old.media) (outside.read_faults media) s →
+      WritesFailed MasterFault (sink.faults old.master) (sink.faults master) s → OnlyReads outside old.media media → new.status ≡ s → new.world ≡ record old { media = media; master = master } →
+      new.journal ≡ None → new.rings.items ≡ [] → new.acks ≡ None → CarriesOut outside sink out old (Some (ToRender r)) new
+  of_render r media master s ends of gets refused reads writes only says world journal rings acks =
+      let master_is : new.world.master ≡ master = ap (λ (w : World M I C W O). w.master) world in
+      let media_is : new.world.media ≡ media = ap (λ (w : World M I C W O). w.media) world in
+      let out_is : new.world.out ≡ old.out = ap (λ (w : World M I C W O). w.out) world in
+      let of_new : IsOfRender new.status = subst IsOfRender (sym says) of in
+      record {
+        ends = λ t. subst (EndsAsAsked outside old (Some (ToRender r))) (sym says) (ends t);
+        status = of_new;
+        sounds = λ t. subst (λ (m : W). GetsTheRender outside old.media sink r old.master m new.status) (sym master_is) (subst (GetsTheRender outside old.media sink r old.master master) (sym says) (gets t));
+        alone = journal;
+        own = nothing_said (Some (ToRender r)) refl (status.render_not_out new.status of_new) out_is;
+        silent = λ _. out_is;
+        reads = subst (λ (m : M). ReadsFailed (outside.read_faults old.media) (outside.read_faults m) new.status) (sym media_is) (subst (ReadsFailed (outside.read_faults old.media) (outside.read_faults media)) (sym says) reads);
+        writes = subst (λ (m : W). WritesFailed MasterFault (sink.faults old.master) (sink.faults m) new.status) (sym master_is) (subst (WritesFailed MasterFault (sink.faults old.master) (sink.faults master)) (sym says) writes);
+        replies = kept OutFault (out.faults old.out) (out.faults new.world.out) new.status (status.render_not_out new.status of_new) (ap (λ (o : O). out.faults o) out_is);
+        still_open = λ still. subst AllStayOpen (sym rings) plays.none_open;
+        played = record {
+          unplayed = record { journal = journal; rings = rings; acks = acks };
+          refused = λ not_done not_master not_read. master_is ∙ refused (λ is. not_done (says ∙ is)) (λ is. not_master (says ∙ is)) (λ is. not_read (says ∙ is));
+        };
+        files = subst (λ (m : M). OnlyReads outside old.media m) (sym media_is) only;
+        input = ap (λ (w : World M I C W O). w.input) world;
+        control = ap (λ (w : World M I C W O). w.control) world;
+        unplayed = λ other. absurd other;
+      }
+
+  -- ---- an export
 
   pub of_export : (e : Export) → Exports outside sink (plan_of_export (outside.files old.media) e) e old new → CarriesOut outside sink out old (Some (ToExport e)) new
   of_export e d = record {
     ends = d.ends;
     status = d.status;
-    export = d.export;
+    sounds = d.export;
     alone = d.alone;
-    own = nothing_said e (status.export_not_out new.status d.status) d.rest.out;
+    own = nothing_said (Some (ToExport e)) refl (status.export_not_out new.status d.status) d.rest.out;
     silent = λ _. d.rest.out;
     reads = d.reads;
     writes = d.writes;

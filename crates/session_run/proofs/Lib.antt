@@ -6,4 +6,5 @@ pub mod OutLemmas
 pub mod DoesLemmas
 pub mod ReplyLemmas
 pub mod MigratedLemmas
+pub mod RenderLemmas
 mod CheckVectors

@@ -9,11 +9,11 @@ use Rattle.cycle_journal.specs.declared.status.Status.TheVariants.{Done, MasterF
 use Rattle.engine_model.specs.Journal as engine
 use Rattle.fault_lines.specs.Fault.{fault_line, fault_words}
 use Rattle.session_opening.specs.Plan.{Plan, plan_of_export, read_session, session_plan}
-use Rattle.session_opening.specs.Words.{Command, Export, ToExport, ToMigrate, ToCheck}
+use Rattle.session_opening.specs.Words.{Command, Export, ToExport, ToMigrate, ToCheck, ToRender}
 use Rattle.session_run.specs.declared.outcome.Outcome.{Outcome}
 use Rattle.session_run.specs.Carried.{CarriesOut}
 use Rattle.session_run.specs.Exported.{IsRun, IsExport, IsOfSome}
-use Rattle.session_run.specs.Headline.{Does, EndsAsAsked, IsComplete, PlaysTheExport, PlaysAnExport}
+use Rattle.session_run.specs.Headline.{Does, EndsAsAsked, IsComplete, MasterIsAsAsked, PlaysAnExport}
 use Rattle.session_run.specs.Replied.{Gets, GetsAFront, IsOwnText, Replies}
 use Rattle.session_run.specs.Status.{PlaysAsAsked, RepliesFailed}
 use Rattle.session_run.proofs.PlayedLemmas as plays
@@ -40,22 +40,25 @@ module _ {M I C W O : Type 0} (media : MediaOutside M) (master : SinkOutside W) 
   some_same : (e : Export) (es : List engine.Entry) → IsOfSome master old ended e es → IsOfSome master old new e es
   some_same e es is = record { session = is.session; is_plain = is.is_plain; run = run_same (record { session = is.session; from = e.from; cycles = e.cycles }) es is.run }
 
-  export : (asked : Option Command) → PlaysTheExport media master old asked ended → PlaysTheExport media master old asked new
-  export (Some (ToExport e)) is = plays.where_played (plan_of_export (media.files old.media) e) ended.journal (IsExport media master old ended) (IsExport media master old new) export_same is
-  export (Some (ToMigrate name)) is = is
-  export (Some (ToCheck name)) is = is
-  export None is = is
+  sounds : (asked : Option Command) → MasterIsAsAsked media master old asked ended → MasterIsAsAsked media master old asked new
+  sounds (Some (ToExport e)) is = plays.where_played (plan_of_export (media.files old.media) e) ended.journal (IsExport media master old ended) (IsExport media master old new) export_same is
+  sounds (Some (ToMigrate name)) is = is
+  sounds (Some (ToCheck name)) is = is
+  sounds (Some (ToRender r)) is = is
+  sounds None is = is
 
   alone : (asked : Option Command) → PlaysAnExport master old asked ended → PlaysAnExport master old asked new
   alone (Some (ToExport e)) is = plays.some_played ended.journal (IsOfSome master old ended e) (IsOfSome master old new e) (some_same e) is
   alone (Some (ToMigrate name)) is = is
   alone (Some (ToCheck name)) is = is
+  alone (Some (ToRender r)) is = is
   alone None is = is
 
   played : (asked : Option Command) → PlaysAsAsked old asked ended → PlaysAsAsked old asked new
   played (Some (ToExport e)) h = record { only = h.only; done = h.done; master = h.master; acknowledged = h.acknowledged; acks = h.acks; nothing = h.nothing }
   played (Some (ToMigrate name)) h = record { journal = h.journal; rings = h.rings; acks = h.acks }
   played (Some (ToCheck name)) h = record { journal = h.journal; rings = h.rings; acks = h.acks }
+  played (Some (ToRender r)) h = record { unplayed = record { journal = h.unplayed.journal; rings = h.unplayed.rings; acks = h.unplayed.acks }; refused = h.refused }
   played None h = record { journal = h.journal; rings = h.rings; acks = h.acks }
 
   -- ---- the line
@@ -99,13 +102,15 @@ module _ {M I C W O : Type 0} (media : MediaOutside M) (master : SinkOutside W) 
           ends ok still fine d.reads d.writes.cause
       by (Some (ToMigrate name)) ends = λ ok still fine. status.completes OutFault (read_session (media.files old.media name)) ended.status reads_before reads_now (out.faults old.out) (out.faults o) ends ok still fine d.reads failed.cause
       by (Some (ToCheck name)) ends = λ ok still fine. status.completes OutFault (session_plan (media.files old.media) name) ended.status reads_before reads_now (out.faults old.out) (out.faults o) ends ok still fine d.reads failed.cause
+      by (Some (ToRender r)) ends = λ ok still fine. status.completes MasterFault (session_plan (media.files old.media) r.session) ended.status reads_before reads_now (master.faults old.master) (master.faults ended.world.master)
+          ends ok still fine d.reads d.writes.cause
       by None ends = tt
 
     pub answered : Does media master out old asked new
     answered = record {
       ends = d.ends;
       status = d.status;
-      export = λ t. export asked (d.export t);
+      sounds = λ t. sounds asked (d.sounds t);
       alone = alone asked d.alone;
       replies = replies;
       complete = complete;

@@ -11,12 +11,12 @@ use Rattle.engine_core.specs.RunInvariant.{only_noted}
 use Rattle.engine_core.specs.Serial.{IsCounted}
 use Rattle.session_opening.specs.Answers.{Caused, Refuses, unopened as opening}
 use Rattle.session_opening.specs.Plan.{Open}
-use Rattle.session_opening.specs.Words.{Command, ToExport, ToMigrate, ToCheck}
+use Rattle.session_opening.specs.Words.{Command, ToExport, ToMigrate, ToCheck, ToRender}
 use Rattle.session_opening.specs.declared.unopened.Unopened.{Unopened}
 use Rattle.session_opening.specs.declared.unopened.Unopened.TheVariants.{Session, NotBuilt, Source, ReadFault}
 use Rattle.session_opening.specs.declared.unopened.Unopened.TheVariants as unopened
 use Rattle.session_run.specs.Exported.{IsStill}
-use Rattle.session_run.specs.Status.{EndsWith, IsOfCheck, IsOfExport, IsOfMigrate, IsStatusOf, ReadsFailed, WritesFailed, status_at_end, status_of}
+use Rattle.session_run.specs.Status.{EndsWith, IsOfCheck, IsOfExport, IsOfMigrate, IsOfRender, IsStatusOf, ReadsFailed, WritesFailed, status_at_end, status_of}
 
 -- what stood still didn't rise
 pub no_rise : (before now : ℕ) (rose : Bool) → IsCounted before now rose → IsStill before now → rose ≡ false
@@ -105,11 +105,23 @@ check_not_usage s (inl done) is = cc
 check_not_usage s (inr (inl fault)) is = cc
 check_not_usage s (inr (inr (why, form, by))) is = not_of why Usage refl (sym by ∙ is)
 
+-- a render writes to the master and not to out
+pub render_not_out : (s : Status) → IsOfRender s → s ≡ OutFault → ⊥
+render_not_out s (inl done) is = cc
+render_not_out s (inr (inl fault)) is = cc
+render_not_out s (inr (inr (why, form, by))) is = not_of why OutFault refl (sym by ∙ is)
+
+pub render_not_usage : (s : Status) → IsOfRender s → s ≡ Usage → ⊥
+render_not_usage s (inl done) is = cc
+render_not_usage s (inr (inl fault)) is = cc
+render_not_usage s (inr (inr (why, form, by))) is = not_of why Usage refl (sym by ∙ is)
+
 -- only no command ends so
 pub usage_only : (asked : Option Command) (s : Status) → IsStatusOf asked s → (s ≡ Usage) ↔ (asked ≡ None)
 usage_only (Some (ToExport e)) s is = (λ usage. absurd (export_not_usage s is usage), λ none. absurd cc)
 usage_only (Some (ToMigrate name)) s is = (λ usage. absurd (migrate_not_usage s is usage), λ none. absurd cc)
 usage_only (Some (ToCheck name)) s is = (λ usage. absurd (check_not_usage s is usage), λ none. absurd cc)
+usage_only (Some (ToRender r)) s is = (λ usage. absurd (render_not_usage s is usage), λ none. absurd cc)
 usage_only None s is = (λ usage. refl, λ none. is)
 
 -- ---- an export that is played

@@ -7,7 +7,7 @@ use Rattle.engine_core.specs.Passed.{AllStayOpen}
 use Rattle.session_opening.specs.Words.{Command}
 use Rattle.session_run.specs.declared.outcome.Outcome.{Outcome}
 use Rattle.session_run.specs.Exported.{IsStill}
-use Rattle.session_run.specs.Headline.{EndsAsAsked, IsNoExport, PlaysTheExport, PlaysAnExport}
+use Rattle.session_run.specs.Headline.{EndsAsAsked, LeavesTheMaster, MasterIsAsAsked, PlaysAnExport}
 use Rattle.session_run.specs.Replied.{IsOwnText, WritesItsOwn}
 use Rattle.session_run.specs.Status.{IsStatusOf, PlaysAsAsked, ReadsFailed, WritesFailed}
 
@@ -17,12 +17,12 @@ module _ {M I C W O : Type 0} where
     -- it ends with the status that words and files determine, and else with one of the command's
     pub ends : media.tells → EndsAsAsked media old asked new.status
     pub status : IsStatusOf asked new.status
-    -- what an export plays
-    pub export : media.tells → PlaysTheExport media master old asked new
+    -- what the master gets
+    pub sounds : media.tells → MasterIsAsAsked media master old asked new
     pub alone : PlaysAnExport master old asked new
-    -- what it writes to out; an export leaves it alone
+    -- what it writes to out; an export and a render leave it alone
     pub own : WritesItsOwn out (IsOwnText media old.media asked) old.out new.world.out new.status
-    pub silent : ¬ (IsNoExport asked) → new.world.out ≡ old.out
+    pub silent : ¬ (LeavesTheMaster asked) → new.world.out ≡ old.out
     -- each fault that is answered has its cause
     pub reads : ReadsFailed (media.read_faults old.media) (media.read_faults new.world.media) new.status
     pub writes : WritesFailed MasterFault (master.faults old.master) (master.faults new.world.master) new.status
@@ -34,4 +34,4 @@ module _ {M I C W O : Type 0} where
     pub files : OnlyReads media old.media new.world.media
     pub input : new.world.input ≡ old.input
     pub control : new.world.control ≡ old.control
-    pub unplayed : IsNoExport asked → new.world.master ≡ old.master
+    pub unplayed : LeavesTheMaster asked → new.world.master ≡ old.master

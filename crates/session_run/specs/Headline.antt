@@ -9,9 +9,10 @@ use Rattle.cycle_journal.specs.JournalView.{seen_entries}
 use Rattle.engine_core.specs.Passed.{AllStayOpen}
 use Rattle.session_opening.specs.Plan.{plan_of_export, read_session, session_plan}
 use Rattle.session_opening.specs.Spoken.{texts}
-use Rattle.session_opening.specs.Words.{Command, ToExport, ToMigrate, ToCheck, command}
+use Rattle.session_opening.specs.Words.{Command, ToExport, ToMigrate, ToCheck, ToRender, command}
 use Rattle.session_run.specs.declared.outcome.Outcome.{Outcome}
 use Rattle.session_run.specs.Exported.{IsStill, WherePlayed, IsExport, IsOfSome}
+use Rattle.session_run.specs.Rendered.{GetsTheRender}
 use Rattle.session_run.specs.Replied.{IsOwnText, Replies}
 use Rattle.session_run.specs.Status.{EndsWith, IsStatusOf, PlaysAsAsked, ReadsFailed, WritesFailed, RepliesFailed}
 
@@ -19,28 +20,31 @@ use Rattle.session_run.specs.Status.{EndsWith, IsStatusOf, PlaysAsAsked, ReadsFa
 abbrev pub asked_by : List (Bor (List ℕ)) → Option Command
 asked_by words = command (texts words)
 
--- no export was asked for
-abbrev pub IsNoExport : Option Command → Type 0
-IsNoExport (Some (ToExport e)) = ⊥
-IsNoExport (Some (ToMigrate name)) = Unit {0}
-IsNoExport (Some (ToCheck name)) = Unit {0}
-IsNoExport None = Unit {0}
+-- what was asked for leaves the master alone
+abbrev pub LeavesTheMaster : Option Command → Type 0
+LeavesTheMaster (Some (ToExport e)) = ⊥
+LeavesTheMaster (Some (ToMigrate name)) = Unit {0}
+LeavesTheMaster (Some (ToCheck name)) = Unit {0}
+LeavesTheMaster (Some (ToRender r)) = ⊥
+LeavesTheMaster None = Unit {0}
 
 module _ {M I C W O : Type 0} where
   -- ---- what is played and written
 
-  -- what was played is the export that the words and the files make; no other command plays
-  abbrev pub PlaysTheExport : MediaOutside M → SinkOutside W → World M I C W O → Option Command → Outcome M I C W O → Type 0
-  PlaysTheExport media master old (Some (ToExport e)) new = WherePlayed (plan_of_export (media.files old.media) e) new.journal (IsExport media master old new)
-  PlaysTheExport media master old (Some (ToMigrate name)) new = new.journal ≡ None
-  PlaysTheExport media master old (Some (ToCheck name)) new = new.journal ≡ None
-  PlaysTheExport media master old None new = new.journal ≡ None
+  -- what the master gets is the export or the render that the words and the files make; only an export plays
+  abbrev pub MasterIsAsAsked : MediaOutside M → SinkOutside W → World M I C W O → Option Command → Outcome M I C W O → Type 0
+  MasterIsAsAsked media master old (Some (ToExport e)) new = WherePlayed (plan_of_export (media.files old.media) e) new.journal (IsExport media master old new)
+  MasterIsAsAsked media master old (Some (ToMigrate name)) new = new.journal ≡ None
+  MasterIsAsAsked media master old (Some (ToCheck name)) new = new.journal ≡ None
+  MasterIsAsAsked media master old (Some (ToRender r)) new = GetsTheRender media old.media master r old.master new.world.master new.status
+  MasterIsAsAsked media master old None new = new.journal ≡ None
 
   -- it is the export that the words ask for, also where the media tells nothing
   abbrev pub PlaysAnExport : SinkOutside W → World M I C W O → Option Command → Outcome M I C W O → Type 0
   PlaysAnExport master old (Some (ToExport e)) new = IfSome new.journal (λ j. IsOfSome master old new e (seen_entries j.items))
   PlaysAnExport master old (Some (ToMigrate name)) new = new.journal ≡ None
   PlaysAnExport master old (Some (ToCheck name)) new = new.journal ≡ None
+  PlaysAnExport master old (Some (ToRender r)) new = new.journal ≡ None
   PlaysAnExport master old None new = new.journal ≡ None
 
   -- out gets the text of the command, or the line that says how the run failed
@@ -54,6 +58,7 @@ module _ {M I C W O : Type 0} where
   EndsAsAsked media old (Some (ToExport e)) s = EndsWith MasterFault (plan_of_export (media.files old.media) e) s
   EndsAsAsked media old (Some (ToMigrate name)) s = EndsWith OutFault (read_session (media.files old.media name)) s
   EndsAsAsked media old (Some (ToCheck name)) s = EndsWith OutFault (session_plan (media.files old.media) name) s
+  EndsAsAsked media old (Some (ToRender r)) s = EndsWith MasterFault (session_plan (media.files old.media) r.session) s
   EndsAsAsked media old None s = s ≡ Usage
 
   -- Each fault that is answered has its cause.
@@ -79,6 +84,8 @@ module _ {M I C W O : Type 0} where
       IsStill (media.read_faults old.media) (media.read_faults new.world.media) → IsStill (out.faults old.out) (out.faults new.world.out) → IsDoneButForMemory new
   IsComplete media master out old (Some (ToCheck name)) new = IsOk (session_plan (media.files old.media) name) →
       IsStill (media.read_faults old.media) (media.read_faults new.world.media) → IsStill (out.faults old.out) (out.faults new.world.out) → IsDoneButForMemory new
+  IsComplete media master out old (Some (ToRender r)) new = IsOk (session_plan (media.files old.media) r.session) →
+      IsStill (media.read_faults old.media) (media.read_faults new.world.media) → IsStill (master.faults old.master) (master.faults new.world.master) → IsDoneButForMemory new
   IsComplete media master out old None new = Unit {0}
 
   -- ---- what is left alone
@@ -89,18 +96,18 @@ module _ {M I C W O : Type 0} where
     pub files : OnlyReads media old.media new.media
     pub input : new.input ≡ old.input
     pub control : new.control ≡ old.control
-    -- only an export writes to the master
-    pub master : IsNoExport asked → new.master ≡ old.master
-    -- and nothing to out where it is Done
-    pub out : ¬ (IsNoExport asked) → s ≡ Done → new.out ≡ old.out
+    -- only an export and a render write to the master
+    pub master : LeavesTheMaster asked → new.master ≡ old.master
+    -- and nothing to out where they are Done
+    pub out : ¬ (LeavesTheMaster asked) → s ≡ Done → new.out ≡ old.out
 
   -- What every run does that was asked for this.
   pub record Does (media : MediaOutside M) (master : SinkOutside W) (out : SinkOutside O) (old : World M I C W O) (asked : Option Command) (new : Outcome M I C W O) : Type 0 where
     -- it ends with the status that words and files determine, and else with one of the command's
     pub ends : media.tells → EndsAsAsked media old asked new.status
     pub status : IsStatusOf asked new.status
-    -- what an export plays
-    pub export : media.tells → PlaysTheExport media master old asked new
+    -- what the master gets
+    pub sounds : media.tells → MasterIsAsAsked media master old asked new
     pub alone : PlaysAnExport master old asked new
     -- what out gets
     pub replies : RepliesAsAsked media out old asked new

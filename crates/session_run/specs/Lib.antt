@@ -3,6 +3,7 @@ pub mod Status
 pub mod Exported
 pub mod Migrated
 pub mod Checked
+pub mod Rendered
 pub mod Replied
 pub mod Headline
 pub mod Carried

@@ -6,15 +6,16 @@ use Rattle.ses_io.specs.Streams.{AppendsSome}
 use Rattle.cycle_journal.specs.declared.status.Status.{Status}
 use Rattle.cycle_journal.specs.declared.status.Status.TheVariants.{Done, OutFault}
 use Rattle.fault_lines.specs.Fault.{fault_line}
-use Rattle.session_opening.specs.Words.{Command, ToExport, ToMigrate, ToCheck}
+use Rattle.session_opening.specs.Words.{Command, ToExport, ToMigrate, ToCheck, ToRender}
 use Rattle.session_run.specs.Checked.{IsCheckText}
 use Rattle.session_run.specs.Migrated.{IsMigratedText}
 
--- **a command's own text**, by the files: nothing of an export so far. What is no command has none
+-- **a command's own text**, by the files: nothing of a render, and of an export so far. What is no command has none
 abbrev pub IsOwnText : {M : Type 0} → MediaOutside M → M → Option Command → List ℕ → Type 0
 IsOwnText media before (Some (ToExport e)) text = text ≡ []
 IsOwnText media before (Some (ToMigrate name)) text = IsMigratedText media before name text
 IsOwnText media before (Some (ToCheck name)) text = IsCheckText media before name text
+IsOwnText media before (Some (ToRender r)) text = text ≡ []
 IsOwnText media before None text = ⊥
 
 module _ {O : Type 0} (out : SinkOutside O) where

@@ -1,5 +1,5 @@
 -- The status of a run: which one the words and the files determine, and what ties each fault to its count.
-use Rattle.std.specs.Prelude.{◌≡◌, ◌≢◌, ℕ, ◌≤◌, ◌⊎◌, if◌then◌else◌, [], Option, Some, None, IsSome, IfSome, Ok, Err}
+use Rattle.std.specs.Prelude.{◌≡◌, ◌≢◌, ℕ, ◌≤◌, ◌⊎◌, if◌then◌else◌, [], Option, Some, None, IsSome, IfSome, Result, Ok, Err}
 use Rattle.ses_io.specs.Faults.{risen}
 use Rattle.ses_io.specs.declared.world.World.{World}
 use Rattle.disk_ring.specs.Rings.{Whole}
@@ -7,6 +7,8 @@ use Rattle.audio_source.specs.declared.refusal.FileRefusal.{FileRefusal}
 use Rattle.audio_source.specs.Refusals.{why_of}
 use Rattle.cycle_journal.specs.declared.status.Status.{Status}
 use Rattle.cycle_journal.specs.declared.status.Status.TheVariants.{Done, Usage, Session, SourceFile, ReadFault, WriteFault, InputFault, MasterFault, ControlFault, OutFault, NoMemory, ControlTooLong, NotBuilt}
+use Rattle.master_render.specs.declared.fault.RenderFault.{RenderFault}
+use Rattle.master_render.specs.declared.fault.RenderFault.TheVariants as fault
 use Rattle.process_cycle.specs.declared.finished.Faults.{Faults}
 use Rattle.session_opening.specs.declared.no_session.NoSession.{NoSession}
 use Rattle.session_opening.specs.declared.unopened.Unopened.{Unopened}
@@ -14,7 +16,7 @@ use Rattle.session_opening.specs.declared.unopened.Unopened.TheVariants as unope
 use Rattle.session_opening.specs.Answers as answers
 use Rattle.session_opening.specs.Plan as plan
 use Rattle.session_opening.specs.Plan.{Open, Wrong}
-use Rattle.session_opening.specs.Words.{Command, ToExport, ToMigrate, ToCheck}
+use Rattle.session_opening.specs.Words.{Command, ToExport, ToMigrate, ToCheck, ToRender}
 use Rattle.session_run.specs.declared.outcome.Outcome.{Outcome}
 
 -- ---- by the words and the files
@@ -52,11 +54,23 @@ IsOfMigrate s = (s ≡ Done) ⊎ ((s ≡ OutFault) ⊎ ((why : NoSession) × (s 
 abbrev pub IsOfCheck : Status → Type 0
 IsOfCheck s = (s ≡ Done) ⊎ ((s ≡ OutFault) ⊎ ((why : Unopened) × (why ≢ unopened.NotBuilt) × (s ≡ status_of why)))
 
+-- how a rendering ended
+abbrev pub status_after : Result (Unit {0}) RenderFault → Status
+status_after (Ok v) = Done
+status_after (Err fault.ReadFault) = ReadFault
+status_after (Err fault.MasterFault) = MasterFault
+status_after (Err fault.NoMemory) = NoMemory
+
+-- the same of a render, which takes each form of session and opens its sources
+abbrev pub IsOfRender : Status → Type 0
+IsOfRender s = (s ≡ Done) ⊎ ((s ≡ MasterFault) ⊎ ((why : Unopened) × (why ≢ unopened.NotBuilt) × (s ≡ status_of why)))
+
 -- the same of what was asked for, which may be no command
 abbrev pub IsStatusOf : Option Command → Status → Type 0
 IsStatusOf (Some (ToExport e)) s = IsOfExport s
 IsStatusOf (Some (ToMigrate name)) s = IsOfMigrate s
 IsStatusOf (Some (ToCheck name)) s = IsOfCheck s
+IsStatusOf (Some (ToRender r)) s = IsOfRender s
 IsStatusOf None s = s ≡ Usage
 
 -- of several faults the first in this order
@@ -110,9 +124,16 @@ pub record HasNotPlayed {M I C W O : Type 0} (new : Outcome M I C W O) : Type 0 
   pub rings : new.rings.items ≡ []
   pub acks : new.acks ≡ None
 
+-- Nothing was played; the master was written to only where the session was opened.
+pub record HasRendered {M I C W O : Type 0} (old : World M I C W O) (new : Outcome M I C W O) : Type 0 where
+  pub unplayed : HasNotPlayed new
+  -- it is as it was at each status but these
+  pub refused : new.status ≢ Done → new.status ≢ MasterFault → new.status ≢ ReadFault → new.world.master ≡ old.master
+
 -- only an export is played
 abbrev pub PlaysAsAsked : {M I C W O : Type 0} → World M I C W O → Option Command → Outcome M I C W O → Type 0
 PlaysAsAsked old (Some (ToExport e)) new = HasPlayed old new
 PlaysAsAsked old (Some (ToMigrate name)) new = HasNotPlayed new
 PlaysAsAsked old (Some (ToCheck name)) new = HasNotPlayed new
+PlaysAsAsked old (Some (ToRender r)) new = HasRendered old new
 PlaysAsAsked old None new = HasNotPlayed new

@@ -1,7 +1,7 @@
 //! A command is carried out, and then the line is written that says how it failed.
-ghost use Rattle.std.specs.Prelude.{◌≤◌, IfSome};
+ghost use Rattle.std.specs.Prelude.{IfSome};
 ghost use Rattle.std.specs.Option.{option_map};
-ghost use Rattle.session_opening.specs.Spoken.{IfExport, command_view};
+ghost use Rattle.session_opening.specs.Spoken.{KeepsRanges, command_view};
 ghost use Rattle.session_run.specs.Carried.{CarriesOut};
 ghost use Rattle.session_run.specs.Headline.{Does};
 
@@ -9,6 +9,7 @@ use crate::check::check;
 use crate::export::export;
 use crate::migrate::migrate;
 use crate::outcome::{Outcome, unplayed};
+use crate::render::render;
 use cycle_journal::Status;
 use fault_lines::write_fault;
 use ses_io::{Media, Sink, Source, World};
@@ -21,8 +22,7 @@ fn carry_out<M: Media, I: Source, C: Source, W: Sink, O: Sink>(
     asked: Option<Command<'_>>,
     world: World<M, I, C, W, O>,
 ) -> Outcome<M, I, C, W, O>
-    requires some { IfSome asked (IfExport (λ e. 1 ≤ e.cycles)) }
-    requires few { IfSome asked (IfExport (λ e. e.cycles ≤ 100000)) }
+    requires { IfSome asked KeepsRanges }
     ensures { CarriesOut M.outside W.outside O.outside world
         (option_map command_view asked.entry) result }
 {
@@ -30,6 +30,7 @@ fn carry_out<M: Media, I: Source, C: Source, W: Sink, O: Sink>(
         Some(Command::Export(asked)) => export(alloc, &asked, world),
         Some(Command::Migrate { session }) => migrate(alloc, session, world),
         Some(Command::Check { session }) => check(alloc, session, world),
+        Some(Command::Render(asked)) => render(alloc, &asked, world),
         None => unplayed(alloc, Status::Usage, world),
     }
 }
@@ -40,8 +41,7 @@ pub(crate) fn answer<M: Media, I: Source, C: Source, W: Sink, O: Sink>(
     asked: Option<Command<'_>>,
     world: World<M, I, C, W, O>,
 ) -> Outcome<M, I, C, W, O>
-    requires some { IfSome asked (IfExport (λ e. 1 ≤ e.cycles)) }
-    requires few { IfSome asked (IfExport (λ e. e.cycles ≤ 100000)) }
+    requires { IfSome asked KeepsRanges }
     ensures { Does M.outside W.outside O.outside world
         (option_map command_view asked.entry) result }
 {

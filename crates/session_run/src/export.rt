@@ -1,6 +1,6 @@
 //! `export`: blocks of a session are played into the master.
-ghost use Rattle.std.specs.Prelude.{◌≤◌, Some};
-ghost use Rattle.session_opening.specs.Spoken.{export_view};
+ghost use Rattle.std.specs.Prelude.{Some};
+ghost use Rattle.session_opening.specs.Spoken.{export_view, IsInRange};
 ghost use Rattle.session_opening.specs.Words.{ToExport};
 ghost use Rattle.session_run.specs.Carried.{CarriesOut};
 
@@ -18,8 +18,7 @@ pub(crate) fn export<M: Media, I: Source, C: Source, W: Sink, O: Sink>(
     asked: &Export<'_>,
     world: World<M, I, C, W, O>,
 ) -> Outcome<M, I, C, W, O>
-    requires some { 1 ≤ asked.now.cycles }
-    requires few { asked.now.cycles ≤ 100000 }
+    requires { IsInRange asked.now }
     ensures { CarriesOut M.outside W.outside O.outside world
         (Some (ToExport (export_view asked.now))) result }
 {

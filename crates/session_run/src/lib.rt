@@ -7,6 +7,7 @@ mod ending;
 mod export;
 mod migrate;
 mod outcome;
+mod render;
 mod top;
 mod writing;
 

@@ -1,7 +1,7 @@
 //! The top call: the words are read, and what they ask for is done with the world.
 ghost use Rattle.std.specs.Prelude.{◌≡◌, ◌↔◌, None};
 ghost use Rattle.session_run.specs.Status.{IsStatusOf, PlaysAsAsked};
-ghost use Rattle.session_run.specs.Headline.{asked_by, EndsAsAsked, PlaysTheExport, PlaysAnExport, RepliesAsAsked, IsComplete, HasCauses, LeavesTheRest};
+ghost use Rattle.session_run.specs.Headline.{asked_by, EndsAsAsked, MasterIsAsAsked, PlaysAnExport, RepliesAsAsked, IsComplete, HasCauses, LeavesTheRest};
 
 use crate::answer::answer;
 use crate::outcome::Outcome;
@@ -31,8 +31,8 @@ where
     ensures ends { M.outside.tells
         → EndsAsAsked M.outside world (asked_by words.now) result.status }
     ensures status { IsStatusOf (asked_by words.now) result.status }
-    ensures export { M.outside.tells
-        → PlaysTheExport M.outside W.outside world (asked_by words.now) result }
+    ensures master { M.outside.tells
+        → MasterIsAsAsked M.outside W.outside world (asked_by words.now) result }
     ensures alone { PlaysAnExport W.outside world (asked_by words.now) result }
     ensures out { RepliesAsAsked M.outside O.outside world (asked_by words.now) result }
     ensures complete { M.outside.tells

@@ -1,7 +1,9 @@
 //! Values from outside for what is made of a session: orders of routes, places and windows,
-//! control lines and refusals.
+//! control lines, edits and refusals.
 #![tactic(auto)]
 
+#[cfg(test)]
+mod edits;
 #[cfg(test)]
 mod lines;
 #[cfg(test)]

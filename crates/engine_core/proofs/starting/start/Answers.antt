@@ -8,7 +8,7 @@ use Rattle.engine_core.proofs.starting.start.Goals as goal
 pub gather-requires : goal.gather-requires
 gather-requires g c = let e = c.args.edition in let is = c.requires.1.1.edition_of in let w = c.in-Ok.prepared.workers in λ κs d. (
   d,
-  record { playing = begin.playing_for g.begun.session e w.process is c.in-Ok.ensures.workers.begun.playing; edition = is; more = (e.edits, refl) },
+  record { playing = begin.playing_for g.begun.session e w.process is c.in-Ok.ensures.workers.begun.playing; edition = is.edition_of; more = (e.edits, refl) },
 )
 
 pub returns-clause-started : goal.returns-clause-started

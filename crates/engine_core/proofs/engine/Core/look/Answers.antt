@@ -7,7 +7,7 @@ use Rattle.engine_core.proofs.engine.Core.look.Goals as goal
 -- src/engine.rt
 pub gather-answer-requires : goal.gather-answer-requires
 gather-answer-requires g c = let met = c.meet-core.result in let runs = c.meet-core.ensures.has_met.runs in λ κs w.
-    (w, running.looks_again g.begun met.edition.edits c.meet-core.ensures.running.sends.edits met.process runs.playing met.edition refl runs.edition_of)
+    (w, running.looks_again g.begun met.edition.edits c.meet-core.ensures.running.sends.edits met.process runs.playing met.edition refl runs.edition_of.edition_of)
 
 pub returns-clause-running : goal.returns-clause-running
 returns-clause-running g c = let meet = c.meet-core.ensures in let look = c.gather-answer.ensures in record {
