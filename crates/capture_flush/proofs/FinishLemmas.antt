@@ -1,0 +1,127 @@
+-- Files that were flushed whole and then closed hold the takes of the journal; closed in part, they have fronts of them.
+use Rattle.std.proofs.Common.{◌≡◌, inl, inr, ℕ, ◌^◌, ◌≤◌, ◌<◌, List, [], ◌++◌, length, refl, sym, ap, subst, arith, ◌∙◌}
+use Rattle.std.specs.Prelude.{Bool, true, false, ◌==◌, nat_lt, if◌then◌else◌, Option, Some, None, IfSome, All, unwrap_or}
+use Rattle.std.specs.List.{list_any}
+use Rattle.std.specs.Str.{bytes_eq}
+use Rattle.std.proofs.lemmas.Bool.{and_parts, cases_Bool, false≢true, ltb-true, ne_eqb}
+use Rattle.std.proofs.lemmas.List.Elements.{All-weaker}
+use Rattle.std.proofs.lemmas.Slice.Eq.{bytes_eq-Decides}
+use Rattle.ses_io.specs.Files.{Files, content}
+use Rattle.ses_io.proofs.Files.{bytes_eq-true}
+use Rattle.engine_model.specs.Journal.{Entry, note_of}
+use Rattle.engine_model.specs.Takes.{take_name}
+use Rattle.engine_model.specs.Fits.{take_number}
+use Rattle.capture_flush.specs.declared.run.Run.{Run}
+use Rattle.capture_flush.specs.Blocks.{Block, blocks_in, taken_blocks}
+use Rattle.capture_flush.specs.Closing.{ClosesSomeTracks, closed_file, closed_tracks, runs_of}
+use Rattle.capture_flush.specs.Finished.{AreTakes, AreTakesInPart, IsCounted, IsNamed, Recorded, names_take, tape_of}
+use Rattle.capture_flush.specs.Flushed.{IsFlushed, IsFresh, IsTakeName, flushed_file, flushed_sound, no_head}
+use Rattle.capture_flush.specs.Taking.{IsTakingOf, Taking}
+use Rattle.capture_flush.proofs.CountedLemmas.{follows}
+use Rattle.capture_flush.proofs.CloseLemmas.{AreReady, CanClose, IsTake, NoneNamed, Ready, takes_of, tracks_closed, tracks_elsewhere}
+use Rattle.capture_flush.proofs.FlushLemmas.{named_tracks}
+use Rattle.capture_flush.proofs.NameLemmas.{no_take_held}
+use Rattle.capture_flush.proofs.PartLemmas.{FrontOfTake, some_tracks}
+use Rattle.capture_flush.proofs.NamedRunLemmas.{runs_of_it, unnamed}
+use Rattle.capture_flush.proofs.NoteLemmas.{counts_up, none_came}
+use Rattle.capture_flush.proofs.TakeFileLemmas.{closed_is_take, flushed_bytes, flushed_front_of_take}
+use Rattle.capture_flush.proofs.TakenLemmas.{taken_kept}
+
+-- ---- files that no take of the journal has
+
+same_unless : (o h : Option (List ℕ)) → ((o ≡ h → ⊥) → ⊥) → o ≡ h
+same_unless None None twice = refl
+same_unless None (Some h) twice = absurd (twice (λ same. cc))
+same_unless (Some o) None twice = absurd (twice (λ same. cc))
+same_unless (Some o) (Some h) twice = elim (cases_Bool (bytes_eq o h)) [
+  | inl same ↦ ap (λ bytes. Some bytes) (bytes_eq-true o h same)
+  | inr other ↦ absurd (twice (λ is. false≢true (sym other ∙ (bytes_eq-Decides o h).1 (some_same o h is))))
+]
+  where
+    some_same : (o h : List ℕ) → ◌≡◌ {A = Option (List ℕ)} (Some o) (Some h) → o ≡ h
+    some_same o h is = cc
+
+-- such a file is as it was, where none is there of a take that isn't named
+pub unnamed_stay : (run : Recorded) (journal : List Entry) (files : Files) → IsFresh (tape_of run journal) →
+    ((t n : ℕ) → t < length run.session.tracks.items → names_take t n journal ≡ false → files (take_name run.session t n) ≡ None) →
+    ((q : List ℕ) → (IsTakeName run.session q → ⊥) → files q ≡ run.held q) → (q : List ℕ) → (IsNamed run.session journal q → ⊥) → files q ≡ run.held q
+unnamed_stay run journal files fresh none others q not_named = same_unless (files q) (run.held q) (λ differ. differ (others q (λ it. differ (of_take it))))
+  where
+    of_take : IsTakeName run.session q → files q ≡ run.held q
+    of_take it = elim (cases_Bool (names_take it.0 it.1 journal)) [
+      | inl is ↦ absurd (not_named (it.0, it.1, it.2, is, it.3))
+      | inr is ↦ subst (λ k. files k ≡ run.held k) it.3 (none it.0 it.1 it.2 is ∙ sym (no_take_held (tape_of run journal) it.0 it.1 fresh))
+    ]
+
+-- ---- what was flushed
+
+module _ (run : Recorded) (journal : List Entry) (f : Taking) (files : Files) (counted : IsCounted run.session journal) (flushed : IsFlushed (tape_of run journal) f files) where
+  -- each file has all blocks that the journal took
+  pub held_of : (t n : ℕ) → t < length run.session.tracks.items → files (take_name run.session t n) ≡ flushed_file run.session t n (taken_blocks run.session run.input t journal)
+  held_of t n lt = flushed.takes t n lt ∙ ap (flushed_file run.session t n) (taken_kept run.session run.input t journal (counted.takes t lt))
+
+  pub none_held : (t n : ℕ) → t < length run.session.tracks.items → names_take t n journal ≡ false → files (take_name run.session t n) ≡ None
+  none_held t n lt not_named = held_of t n lt ∙ ap (λ k. if k == 0 then None else Some (no_head ++ flushed_sound run.session t n (taken_blocks run.session run.input t journal)))
+      (none_came run.session run.input t n 0 journal (unnamed t n journal (counted.takes t lt) not_named))
+
+  pub all_ready : CanClose run journal → (t : ℕ) → t < length run.session.tracks.items → AreReady run journal files t
+  all_ready can t lt = All-weaker (IsTake run journal t) (Ready run journal files t)
+      (λ r is. ap (λ o. closed_file run.session t r (unwrap_or o [])) (held_of t r.take lt) ∙ closed_is_take run.session run.input t journal r is) (runs_of t journal) (takes_of run journal t can lt)
+
+  pub others_held : (q : List ℕ) → (IsNamed run.session journal q → ⊥) → files q ≡ run.held q
+  others_held = unnamed_stay run journal files flushed.fresh none_held flushed.others
+
+can_close : (run : Recorded) (journal : List Entry) (f : Taking) → IsTakingOf run.session f → IsCounted run.session journal → length journal < 2 ^ 64 → CanClose run journal
+can_close run journal f of counted small = record { valid = of.valid; named = named_tracks run.session f of; counted = counted; small = small }
+
+-- a name that isn't that of a take of the journal is that of none that is closed
+none_of_it : (run : Recorded) (journal : List Entry) (q : List ℕ) (t : ℕ) → CanClose run journal → t < length run.session.tracks.items → (IsNamed run.session journal q → ⊥) →
+    NoneNamed run t q (runs_of t journal)
+none_of_it run journal q t can lt not_named = All-weaker (IsTake run journal t) (λ (r : Run). bytes_eq (take_name run.session t r.take) q ≡ false)
+    (λ r is. elim (cases_Bool (bytes_eq (take_name run.session t r.take) q)) [
+      | inl same ↦ absurd (not_named (t, r.take, lt, is.named, bytes_eq-true (take_name run.session t r.take) q same))
+      | inr other ↦ other
+    ]) (runs_of t journal) (takes_of run journal t can lt)
+
+pub finished : (run : Recorded) (journal : List Entry) (f : Taking) (files files' : Files) → length journal < 2 ^ 64 → IsTakingOf run.session f → IsCounted run.session journal →
+    IsFlushed (tape_of run journal) f files → files' ≡ closed_tracks run.session journal 0 (length run.session.tracks.items) files → AreTakes run journal files'
+finished run journal f files files' small of counted flushed same = let can = can_close run journal f of counted small in let many = length run.session.tracks.items in record {
+  takes = λ t n lt named. ap (λ k. k (take_name run.session t n)) same
+      ∙ tracks_closed run journal 0 many t n files can (omega arith) (λ u low high. all_ready run journal f files counted flushed can u high) (omega arith) lt named;
+  others = λ q not_named. ap (λ k. k q) same
+      ∙ tracks_elsewhere run journal q 0 many files (λ u low high. none_of_it run journal q u can (omega arith) not_named) ∙ others_held run journal f files counted flushed q not_named;
+}
+
+-- what was flushed has a front of each take
+front_of_flushed : (run : Recorded) (journal : List Entry) (t n : ℕ) → IsCounted run.session journal → t < length run.session.tracks.items → names_take t n journal ≡ true →
+    IfSome (flushed_file run.session t n (taken_blocks run.session run.input t journal)) (FrontOfTake run journal t n)
+front_of_flushed run journal t n counted lt named = by (blocks_in n bs == 0)
+  where
+    bs : List Block
+    bs = taken_blocks run.session run.input t journal
+
+    some : 0 < n
+    some = ltb-true 0 n (and_parts (nat_lt 0 n) (list_any (λ e. take_number (note_of t e).take == n) journal) named).0
+
+    by : (b : Bool) → IfSome (if b then None else Some (no_head ++ flushed_sound run.session t n bs)) (FrontOfTake run journal t n)
+    by true = tt
+    by false = flushed_front_of_take run.session run.input t n journal (counts_up t n journal (follows t journal (counted.takes t lt)) some)
+
+pub finished_in_part : (run : Recorded) (journal : List Entry) (f : Taking) (files files' : Files) → length journal < 2 ^ 64 → IsTakingOf run.session f → IsCounted run.session journal →
+    IsFlushed (tape_of run journal) f files → ClosesSomeTracks run.session journal 0 (length run.session.tracks.items) files files' → AreTakesInPart run journal files'
+finished_in_part run journal f files files' small of counted flushed some = let can = can_close run journal f of counted small in
+    some_tracks run journal 0 (length run.session.tracks.items) files files' can (omega arith) (λ u low high. all_ready run journal f files counted flushed can u high) (record {
+      takes = λ t n lt named. subst (λ o. IfSome o (FrontOfTake run journal t n)) (sym (held_of run journal f files counted flushed t n lt)) (front_of_flushed run journal t n counted lt named);
+      others = others_held run journal f files counted flushed;
+    }) some
+
+pub has_heads : (run : Recorded) (journal : List Entry) (f : Taking) (files : Files) (t : ℕ) → IsTakingOf run.session f → IsCounted run.session journal → IsFlushed (tape_of run journal) f files →
+    t < length run.session.tracks.items → All (λ (r : Run). 0 < r.filled → 44 ≤ length (content files (take_name run.session t r.take))) (runs_of t journal)
+has_heads run journal f files t of counted flushed lt = All-weaker (IsTake run journal t) (λ (r : Run). 0 < r.filled → 44 ≤ length (content files (take_name run.session t r.take)))
+    (λ r is some. subst (λ o. 44 ≤ length (unwrap_or o [])) (sym (held_of run journal f files counted flushed t r.take lt)) (room t r (omega (arith, is.filled, some))))
+    (runs_of t journal) (runs_of_it run.session run.input t journal (counted.takes t lt))
+  where
+    room : (t : ℕ) (r : Run) → 0 < blocks_in r.take (taken_blocks run.session run.input t journal) →
+        44 ≤ length (flushed_bytes run.session t r.take (taken_blocks run.session run.input t journal))
+    room t r some = let bs = taken_blocks run.session run.input t journal in
+        subst (λ b. 44 ≤ length (unwrap_or (if b then None else Some (no_head ++ flushed_sound run.session t r.take bs)) [])) (sym (ne_eqb (blocks_in r.take bs) 0 (λ none. absurd (omega arith)))) (omega arith)

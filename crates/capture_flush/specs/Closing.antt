@@ -1,0 +1,82 @@
+-- How the take files of a journal are closed, one after another (own).
+use Rattle.std.specs.Prelude.{◌≡◌, ℕ, zero, suc, ◌*◌, ◌-◌, ◌%◌, ◌==◌, ◌<◌, ◌≤◌, ◌⊎◌, if◌then◌else◌, List, [], ◌∷◌, ◌++◌, length, drop, replicate, Option, Some, None}
+use Rattle.std.specs.Option.{option_map_or}
+use Rattle.ses_io.specs.Files.{Files, content, with_file}
+use Rattle.sound_model.specs.Wav.{header}
+use Rattle.session_model.specs.declared.session.Session.{Session}
+use Rattle.engine_model.specs.Journal.{Take, Off, Taken, Lost, Entry, note_of}
+use Rattle.engine_model.specs.Takes.{take_form, take_name}
+use Rattle.capture_flush.specs.declared.run.Run.{Run}
+use Rattle.capture_flush.specs.Flushed.{no_head, block_bytes, IsFront}
+
+-- ---- the takes of a track, as they follow one another in a journal
+
+-- the take that is open after a note: one block longer, and filled so far where its block was taken; none where nothing was recorded
+abbrev pub open_after : Option Run → Take → Option Run
+open_after before Off = None
+open_after before (Taken n i) = let blocks = option_map_or (λ r. r.blocks) before 0 in Some (record { take = n; blocks = suc blocks; filled = suc blocks })
+open_after before (Lost n i head) = Some (record { take = n; blocks = suc (option_map_or (λ r. r.blocks) before 0); filled = option_map_or (λ r. r.filled) before 0 })
+
+-- the take that a note ends
+abbrev pub ended_by : Option Run → Take → List Run
+ended_by None take = []
+ended_by (Some run) Off = run ∷ []
+ended_by (Some run) (Taken n i) = []
+ended_by (Some run) (Lost n i head) = []
+
+-- the takes of track t in these entries, where one may be open before them
+abbrev pub runs_from : Option Run → ℕ → List Entry → List Run
+runs_from None t [] = []
+runs_from (Some run) t [] = run ∷ []
+runs_from before t (e ∷ es) = ended_by before (note_of t e).take ++ runs_from (open_after before (note_of t e).take) t es
+
+abbrev pub runs_of : ℕ → List Entry → List Run
+runs_of t journal = runs_from None t journal
+
+-- ---- one file
+
+-- what is put behind the blocks that came: room for a header where none did, zeros for those lost at the end, and the pad byte
+-- `size`: the bytes of a block
+abbrev pub ending_of : ℕ → Run → List ℕ
+ending_of size run = (if run.filled == 0 then no_head else [])
+    ++ (replicate ((run.blocks - run.filled) * size) 0 ++ replicate (run.blocks * size % 2) 0)
+
+abbrev pub ending : Session → ℕ → Run → List ℕ
+ending s t run = ending_of (block_bytes s t) run
+
+-- the file, where it held these bytes
+abbrev pub closed_file : Session → ℕ → Run → List ℕ → List ℕ
+closed_file s t run held = header (take_form s t) (run.blocks * block_bytes s t) ++ drop 44 (held ++ ending s t run)
+
+abbrev pub closed : Session → ℕ → Run → Files → Files
+closed s t run files = let name = take_name s t run.take in with_file files name (closed_file s t run (content files name))
+
+-- no file changed but that one, which has a front of its sound from byte 44 on
+abbrev pub ClosesInPart : Session → ℕ → Run → Files → Files → Type 0
+ClosesInPart s t run old new = let name = take_name s t run.take in (new ≡ old)
+    ⊎ ((bytes : List ℕ) × (new ≡ with_file old name bytes) × IsFront (drop 44 bytes) (drop 44 (content old name ++ ending s t run)))
+
+-- where blocks of a take came, its file has room for a header
+abbrev pub HasHead : Session → ℕ → Files → Run → Type 0
+HasHead s t files run = 0 < run.filled → 44 ≤ length (content files (take_name s t run.take))
+
+-- ---- all files
+
+abbrev pub closed_runs : Session → ℕ → List Run → Files → Files
+closed_runs s t [] files = files
+closed_runs s t (run ∷ runs) files = closed_runs s t runs (closed s t run files)
+
+-- some were closed, and one in part
+abbrev pub ClosesSome : Session → ℕ → List Run → Files → Files → Type 0
+ClosesSome s t [] old new = new ≡ old
+ClosesSome s t (run ∷ runs) old new = ClosesInPart s t run old new ⊎ ClosesSome s t runs (closed s t run old) new
+
+-- those of so many tracks from track t on
+abbrev pub closed_tracks : Session → List Entry → ℕ → ℕ → Files → Files
+closed_tracks s journal t zero files = files
+closed_tracks s journal t (suc more) files = closed_tracks s journal (suc t) more (closed_runs s t (runs_of t journal) files)
+
+abbrev pub ClosesSomeTracks : Session → List Entry → ℕ → ℕ → Files → Files → Type 0
+ClosesSomeTracks s journal t zero old new = new ≡ old
+ClosesSomeTracks s journal t (suc more) old new = ClosesSome s t (runs_of t journal) old new
+    ⊎ ClosesSomeTracks s journal (suc t) more (closed_runs s t (runs_of t journal) old) new

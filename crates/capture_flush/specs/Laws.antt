@@ -1,0 +1,35 @@
+-- What the definitions of take files come to.
+use Rattle.std.specs.Prelude.{◌≡◌, ℕ, ◌<◌, true, IsTrue, List, ◌++◌, length}
+use Rattle.ses_units.specs.Name.{is_name}
+use Rattle.ses_io.specs.Files.{Files}
+use Rattle.session_model.specs.declared.session.Session.{Session}
+use Rattle.session_model.specs.declared.edit.Edit.{Edit}
+use Rattle.session_model.specs.Valid.{IsValid}
+use Rattle.engine_model.specs.Journal.{Entry}
+use Rattle.engine_model.specs.Fits.{is_lawful}
+use Rattle.engine_model.specs.Takes.{route_name}
+use Rattle.capture_flush.specs.Blocks.{Block, taken_blocks}
+use Rattle.capture_flush.specs.Taking.{Taking}
+use Rattle.capture_flush.specs.Flushed.{Tape, IsFlushed, IsFlushedInPart}
+use Rattle.capture_flush.specs.Finished.{IsCounted, Recorded, AreTakesInPart}
+
+-- In a lawful journal takes are counted.
+abbrev pub ALawfulJournalIsCounted : Type 0
+ALawfulJournalIsCounted = (s : Session) (edits : List Edit) (journal : List Entry) → is_lawful s edits journal ≡ true → IsCounted s journal
+
+-- What was flushed is flushed in part.
+abbrev pub FlushedIsInPart : Type 0
+FlushedIsInPart = (tape : Tape) (f : Taking) (files : Files) → IsFlushed tape f files → IsFlushedInPart tape files
+
+-- the names of the tracks' routes are names
+abbrev pub HasNamedTracks : Session → Type 0
+HasNamedTracks s = (t : ℕ) → t < length s.tracks.items → IsTrue (is_name (route_name s t))
+
+-- the blocks passed are the first of those that the journal took
+abbrev pub PassesFirst : Tape → Recorded → List Entry → Type 0
+PassesFirst tape run journal = (t : ℕ) → t < length run.session.tracks.items → (rest : List Block) × (taken_blocks run.session run.input t journal ≡ tape.blocks t ++ rest)
+
+-- Where flushing ended early, the files have a front of each take of the journal.
+abbrev pub AnEarlyEndIsInPart : Type 0
+AnEarlyEndIsInPart = (tape : Tape) (run : Recorded) (journal : List Entry) (files : Files) → tape.session ≡ run.session → tape.held ≡ run.held → IsValid run.session →
+    HasNamedTracks run.session → IsCounted run.session journal → PassesFirst tape run journal → IsFlushedInPart tape files → AreTakesInPart run journal files

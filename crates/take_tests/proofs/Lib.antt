@@ -1,0 +1,2 @@
+-- What the check of a journal stands on.
+mod CountedLemmas

@@ -1,0 +1,116 @@
+//! Calls of the media that fail while the take of a lost block is written, one in each run.
+use crate::bench::{Ended, TakeBench, row_holds};
+use crate::media::QuietMedia;
+use crate::takes::THIRD_IS_LOST;
+use ses_io::MemMedia;
+use std::alloc::Global;
+
+const NAME: &str = "take-t-1.wav";
+
+// The sound of the whole take: 1 to 8, and four zeros.
+const SOUND: &[u8] = b"\x01\0\x02\0\x03\0\x04\0\x05\0\x06\0\x07\0\x08\0\0\0\0\0\0\0\0\0";
+
+// A media that takes each piece whole is called five times: for the room of the header, the first block, the second one,
+// and at the end the zeros of the third one and the header. The call that fails, where, and the bytes that it leaves.
+const CALLS: [(u64, Ended, Option<usize>); 5] = [
+    (1, Ended::AtBlock(0), None),
+    (2, Ended::AtBlock(0), Some(44)),
+    (3, Ended::AtBlock(1), Some(52)),
+    (4, Ended::AtFinish, Some(60)),
+    (5, Ended::AtFinish, Some(68)),
+];
+
+// Writes to the take fail from these places on; that of the header is at place 0.
+const PLACES: [(u64, Ended, Option<usize>); 5] = [
+    (0, Ended::AtBlock(0), None),
+    (44, Ended::AtBlock(0), Some(44)),
+    (52, Ended::AtBlock(1), Some(52)),
+    (60, Ended::AtFinish, Some(60)),
+    (68, Ended::Whole, Some(68)),
+];
+
+// The bytes that a media takes at once, and how often it is then called. Pieces of 44, 8, 8, 8 and 44 bytes are 112 calls
+// byte by byte, and 9 + 2 + 2 + 2 + 9 by five bytes.
+const PIECES: [(usize, u64); 3] = [(usize::MAX, 5), (5, 24), (1, 112)];
+
+// The run over a media, and how it ended.
+fn ended(alloc: Global, media: QuietMedia) -> Option<(TakeBench<QuietMedia>, Ended)> {
+    let mut bench = TakeBench::new(alloc, THIRD_IS_LOST.run.session, media)?;
+    let ended = bench.carry_out(alloc, &THIRD_IS_LOST.run)?;
+    Some((bench, ended))
+}
+
+// Over one that takes at most so many bytes at once, and whose n-th call fails.
+fn failed(alloc: Global, n: u64, most: usize) -> Option<(TakeBench<QuietMedia>, Ended)> {
+    let mut files = MemMedia::new(alloc);
+    files.fail_call(n).ok()?;
+    ended(alloc, QuietMedia::new(files, most))
+}
+
+// Over one whose writes to the take fail from a place on.
+fn failed_from(alloc: Global, from: u64) -> Option<(TakeBench<QuietMedia>, Ended)> {
+    let mut files = MemMedia::new(alloc);
+    files.fail_writes(NAME, from).ok()?;
+    ended(alloc, QuietMedia::new(files, usize::MAX))
+}
+
+// Whether a run ended so, and its file has so many bytes.
+fn is_ended(run: Option<(TakeBench<QuietMedia>, Ended)>, want: Ended, size: Option<usize>) -> bool {
+    match run {
+        Some((bench, ended)) => ended == want && bench.media().length(NAME) == size,
+        None => false,
+    }
+}
+
+#[test]
+fn each_call_that_fails_ends_the_block_or_the_finish(rt: HostRuntime) {
+    for (at, (n, want, size)) in CALLS.iter().enumerate() {
+        let run = failed(rt.alloc(), *n, usize::MAX);
+        row_holds(&rt, at, is_ended(run, *want, *size));
+    }
+}
+
+#[test]
+fn a_file_that_takes_no_more_bytes_is_a_fault(rt: HostRuntime) {
+    for (at, (from, want, size)) in PLACES.iter().enumerate() {
+        row_holds(
+            &rt,
+            at,
+            is_ended(failed_from(rt.alloc(), *from), *want, *size),
+        );
+    }
+}
+
+// Whether the file has a front of the sound behind the room for the header.
+fn has_front(media: &QuietMedia) -> bool {
+    match media.held(NAME) {
+        Some(held) => SOUND.starts_with(held.get(44..).unwrap_or(&[])),
+        None => true,
+    }
+}
+
+// Whether a run with a call that fails meets it, and leaves a front.
+fn is_front(alloc: Global, n: u64, most: usize) -> bool {
+    match failed(alloc, n, most) {
+        Some((bench, ended)) => ended != Ended::Whole && has_front(bench.media()),
+        None => false,
+    }
+}
+
+// Whether that is so for each of so many calls, and the next one isn't made.
+fn are_fronts(alloc: Global, most: usize, calls: u64) -> bool {
+    for n in 1..=calls {
+        if !is_front(alloc, n, most) {
+            return false;
+        }
+    }
+    let whole = failed(alloc, calls.saturating_add(1), most);
+    is_ended(whole, Ended::Whole, Some(68))
+}
+
+#[test]
+fn a_fault_leaves_a_front_of_the_take(rt: HostRuntime) {
+    for (at, (most, calls)) in PIECES.iter().enumerate() {
+        row_holds(&rt, at, are_fronts(rt.alloc(), *most, *calls));
+    }
+}
