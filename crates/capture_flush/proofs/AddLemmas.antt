@@ -1,15 +1,15 @@
 -- What a block adds, part by part.
-use Rattle.std.proofs.Common.{◌≡◌, ℕ, ◌-◌, ◌*◌, List, ◌++◌, Option, refl, ap₂, ◌∙◌, subst, Result, Ok, Err, IsErr, [], append_assoc}
+use Rattle.std.proofs.Common.{◌≡◌, ℕ, ◌-◌, ◌*◌, List, ◌++◌, Option, refl, sym, ap, ap₂, ◌∙◌, subst, Result, Ok, Err, IsErr, [], append_assoc, append-nil, true, false, cond}
 use Rattle.std.specs.Prelude.{replicate}
 use Rattle.ses_units.specs.Bits.{bits_of}
 use Rattle.ses_io.specs.Outside.{MediaOutside}
 use Rattle.sound_model.specs.Wav.{sound_bytes}
 use Rattle.session_model.specs.declared.session.Session.{Session}
 use Rattle.capture_flush.specs.declared.track.Place.{Place}
-use Rattle.capture_flush.specs.Blocks.{Block}
-use Rattle.capture_flush.specs.Flushed.{added, head_added, next_index, block_bytes}
+use Rattle.capture_flush.specs.Blocks.{Block, is_kept}
+use Rattle.capture_flush.specs.Flushed.{added, due, head_added, next_index, block_bytes}
 use Rattle.capture_flush.specs.Writes.{Adds}
-use Rattle.capture_flush.proofs.WriteLemmas.{Adds-none, Adds-then, Adds-stopped}
+use Rattle.capture_flush.proofs.WriteLemmas.{Adds-none, Adds-then, Adds-as, Adds-stopped}
 
 -- the three parts of what a block adds
 pub record Parts (s : Session) (t : ℕ) (last : Option Place) (b : Block) (head zeros sound : List ℕ) : Type 0 where
@@ -44,3 +44,24 @@ pub added-in_head : {V E F : Type 0} (outside : MediaOutside V) (s : Session) (t
 added-in_head outside s t last b q name head old one e r err is heads first = named outside q name (added s t last b) old one r is
     (Adds-stopped outside q [] head (replicate ((b.index - next_index last b.take) * block_bytes s t) 0 ++ sound_bytes (bits_of s.bits) b.samples) (added s t last b) old old one e r err
     (whole_is s t last b head _ _ (record { heads = heads; skips = refl; sounds = refl })) (Adds-none outside q old) first)
+
+-- ---- what a block that is passed adds
+
+due_kept : (s : Session) (t : ℕ) (last : Option Place) (b : Block) → is_kept s t last b ≡ true → added s t last b ≡ due s t last b
+due_kept s t last b kept = sym (ap (λ c. cond c (added s t last b) []) kept)
+
+-- it is kept, and all of it was added
+pub due-whole : {V E : Type 0} (outside : MediaOutside V) (name : List ℕ) (s : Session) (t : ℕ) (last : Option Place) (b : Block) (old new : V) → is_kept s t last b ≡ true →
+    Adds {E = E} outside name (added s t last b) old new (Ok tt) → Adds {E = E} outside name (due s t last b) old new (Ok tt)
+due-whole outside name s t last b old new kept adds = Adds-as outside name (added s t last b) (due s t last b) old new (Ok tt) (due_kept s t last b kept) adds
+
+-- or a part
+pub due-part : {V E F : Type 0} (outside : MediaOutside V) (name : List ℕ) (s : Session) (t : ℕ) (last : Option Place) (b : Block) (old new : V) (e : E) (r : Result (Unit {0}) F) → IsErr r → is_kept s t last b ≡ true →
+    Adds outside name (added s t last b) old new (Err e) → Adds outside name (due s t last b) old new r
+due-part outside name s t last b old new e r err kept adds =
+    Adds-stopped outside name [] (added s t last b) [] (due s t last b) old old new e r err (append-nil (added s t last b) ∙ due_kept s t last b kept) (Adds-none outside name old) adds
+
+-- it is left out
+pub due-none : {V E : Type 0} (outside : MediaOutside V) (name : List ℕ) (s : Session) (t : ℕ) (last : Option Place) (b : Block) (now : V) → is_kept s t last b ≡ false →
+    Adds {E = E} outside name (due s t last b) now now (Ok tt)
+due-none outside name s t last b now left = Adds-as outside name [] (due s t last b) now now (Ok tt) (sym (ap (λ c. cond c (added s t last b) []) left)) (Adds-none outside name now)

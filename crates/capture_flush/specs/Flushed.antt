@@ -7,7 +7,7 @@ use Rattle.sound_model.specs.Wav.{sound_bytes}
 use Rattle.session_model.specs.declared.session.Session.{Session}
 use Rattle.engine_model.specs.Takes.{silent_block, take_name}
 use Rattle.capture_flush.specs.declared.track.Place.{Place}
-use Rattle.capture_flush.specs.Blocks.{Block, block_samples, block_at, blocks_in, kept, last_from}
+use Rattle.capture_flush.specs.Blocks.{Block, block_samples, block_at, blocks_in, is_kept, kept, last_from}
 use Rattle.capture_flush.specs.Taking.{Taking, last_of}
 use Rattle.std.specs.Prelude.{length}
 
@@ -91,3 +91,7 @@ head_added (Some last) n = if last.take == n then [] else no_head
 -- what a block that is kept adds to the file of its take
 abbrev pub added : Session → ℕ → Option Place → Block → List ℕ
 added s t last b = head_added last b.take ++ (replicate ((b.index - next_index last b.take) * block_bytes s t) 0 ++ sound_bytes (bits_of s.bits) b.samples)
+
+-- what a block that is passed adds to it: nothing where it is left out
+abbrev pub due : Session → ℕ → Option Place → Block → List ℕ
+due s t last b = if is_kept s t last b then added s t last b else []

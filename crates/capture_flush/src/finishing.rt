@@ -87,8 +87,8 @@ impl TakeFiles {
     }
 
     /// Makes each take that the journal names whole: zeros for blocks that were lost, also where all were, the pad byte
-    /// and the header. The blocks passed were those that the journal took, and none failed. After a WriteFault some files
-    /// are whole, and of the others a front is.
+    /// and the header. The blocks passed were those that the journal took, and none failed. After a WriteFault each file
+    /// has a front of its sound; what its header is then isn't said.
     pub fn finish<M: Media>(&mut self, media: &mut M, j: &Journal) -> Result<(), WriteFault>
         ghost run: { Recorded }
         requires of { IsTakingOf run.session self.old }

@@ -1,13 +1,12 @@
 //! Blocks that come: each goes to the end of the file of its take, behind zeros for those that were skipped.
 ghost use Rattle.std.specs.Prelude.{◌≡◌, ◌<◌, ◌≤◌, ◌*◌, ◌-◌, ◌/◌, ◌++◌, ◌∷◌, [], length, replicate, Some, if◌then◌else◌, false, IsOk, OnOk, OnErr};
 ghost use Rattle.ses_units.specs.Bits.{bits_of};
-ghost use Rattle.ses_io.specs.Outside.{WriteCause};
 ghost use Rattle.sound_model.specs.Wav.{sound_bytes};
 ghost use Rattle.session_model.specs.declared.session.Session.{Session as Opened};
 ghost use Rattle.engine_model.specs.Changes.{changed_at};
 ghost use Rattle.engine_model.specs.Takes.{take_name};
 ghost use Rattle.capture_flush.specs.Blocks.{block_of, block_samples, is_kept};
-ghost use Rattle.capture_flush.specs.Flushed.{Tape, with_block, IsFlushed, IsFlushedInPart, block_bytes, added, head_added, next_index};
+ghost use Rattle.capture_flush.specs.Flushed.{Tape, with_block, IsFlushed, IsFlushedInPart, block_bytes, added, due, head_added, next_index};
 ghost use Rattle.capture_flush.specs.Taking.{IsTakingOf, last_of, after_block};
 ghost use Rattle.capture_flush.specs.Writes.{Adds};
 
@@ -118,7 +117,8 @@ impl TakeFiles {
 
     /// Adds the block to the end of the file of its take, which a new take begins with 44 zeros for its header; blocks
     /// that were skipped are zeros before it. A block that isn't one block of the track, or doesn't come after its last,
-    /// is left out, and nothing changes. Tracks count from 0. After a WriteFault a front of it is there.
+    /// is left out, and nothing changes. Tracks count from 0. After a WriteFault a front of it is there, and the block
+    /// isn't noted: a block that is passed then stands behind that front, so none should be.
     pub fn block<M: Media>(
         &mut self,
         media: &mut M,
@@ -130,6 +130,7 @@ impl TakeFiles {
         requires track { track < length tape.session.tracks.items }
         ensures state { OnOk result (self.new
             ≡ after_block tape.session self.old track (block_of b.now)) }
+        ensures stays { OnErr result (self.new ≡ self.old) }
         ensures of { IsTakingOf tape.session self.new }
         ensures flushed { M.outside.tells → IsFlushed tape self.old (M.outside.files media.old)
             → OnOk result (IsFlushed (with_block tape track (block_of b.now)) self.new
@@ -139,8 +140,9 @@ impl TakeFiles {
             (M.outside.files media.new)) }
         ensures left_out { is_kept tape.session track (last_of self.old track) (block_of b.now)
             ≡ false → (IsOk result) × (media.new ≡ media.old) }
-        ensures cause { WriteCause M.outside media.old media.new result }
-        ensures reads { M.outside.read_faults media.new ≡ M.outside.read_faults media.old }
+        ensures adds { Adds M.outside (take_name tape.session track b.now.take)
+            (due tape.session track (last_of self.old track) (block_of b.now))
+            media.old media.new result }
     {
         if !self.keeps(track, b) {
             return Ok(());

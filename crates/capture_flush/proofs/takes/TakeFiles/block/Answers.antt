@@ -5,6 +5,7 @@ use Rattle.capture_flush.specs.Blocks.{block_of}
 use Rattle.capture_flush.specs.declared.track.TrackTakes.{TrackTakes}
 use Rattle.capture_flush.specs.Flushed.{IsFlushed, with_block}
 use Rattle.capture_flush.specs.Taking.{Taking, IsTakingOf}
+use Rattle.capture_flush.proofs.AddLemmas.{due-none, due-part, due-whole}
 use Rattle.capture_flush.proofs.KeepLemmas.{kept_at, left_last, small_take}
 use Rattle.capture_flush.proofs.FlushLemmas.{named_tracks, left_out, flushed_more, flushed_front, taking_on}
 use Rattle.capture_flush.proofs.takes.TakeFiles.block.Goals as goal
@@ -34,3 +35,12 @@ pub returns-clause-flushed : goal.returns-clause-flushed
 returns-clause-flushed g c t old = let L : Taking → Type 0 = λ f. IsFlushed (with_block g.tape c.args.track (block_of c.args.b.now)) f (g.M.Media.outside.files c.add.new.media) in
     subst L (sym (returns-clause-state g c)) (flushed_more g.tape c.args.self.now _ _ c.args.track (block_of c.args.b.now) c.requires.1.0 (named_tracks g.tape.session c.args.self.now c.requires.1.0) c.requires.1.1
     (small_take c.args.b.now.take c.new-place.ensures.small) (search rules) old (c.in_ok-add.ensures.adds.all t))
+
+pub returns-then-not-keeps-clause-adds : goal.returns-then-not-keeps-clause-adds
+returns-then-not-keeps-clause-adds g c = due-none g.M.Media.outside _ g.tape.session c.args.track _ (block_of c.args.b.now) c.args.media.now (search rules)
+
+pub returns-in_err-add-clause-adds : goal.returns-in_err-add-clause-adds
+returns-in_err-add-clause-adds g c = due-part g.M.Media.outside _ g.tape.session c.args.track _ (block_of c.args.b.now) _ _ _ c.from_residual.result c.from_residual.ensures.0 (search rules) c.in_err-add.ensures.adds
+
+pub returns-clause-adds : goal.returns-clause-adds
+returns-clause-adds g c = due-whole g.M.Media.outside _ g.tape.session c.args.track _ (block_of c.args.b.now) _ _ (search rules) c.in_ok-add.ensures.adds
