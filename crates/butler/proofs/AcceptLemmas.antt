@@ -8,7 +8,7 @@ use mathlib.Core.List.{IsPrefix}
 use Rattle.session_model.specs.declared.session.Session.{Session}
 use Rattle.session_model.specs.declared.edit.Edit.{Edit}
 use Rattle.engine_model.specs.Edits.{playlist_edition, generation, starts, touches}
-use Rattle.engine_model.specs.Items.{Kind}
+use Rattle.engine_model.specs.Items.{Kind, Piece, Settled, Blank}
 use Rattle.engine_model.specs.Due.{Ack, next_block}
 use Rattle.engine_laws.specs.Kept.{Kept, is_from}
 use Rattle.engine_laws.specs.Tracked.{Tracked}
@@ -19,11 +19,12 @@ use Rattle.engine_laws.proofs.NumberLemmas.{count_rises, count_stays, last_rises
 use Rattle.disk_ring.specs.Sender.{Sender}
 use Rattle.piece_item.specs.declared.item.Item.{Item}
 use Rattle.piece_item.specs.declared.ack.Ack.{Ack as Acknowledgement}
-use Rattle.piece_item.specs.Views.{ack_of}
-use Rattle.butler.specs.declared.progress.SendProgress.{SendProgress}
-use Rattle.butler.specs.declared.supply.TrackSupply.{TrackSupply}
-use Rattle.butler.specs.SendProgress.{entered}
-use Rattle.butler.specs.Sends.{kinds, acks_of}
+use Rattle.piece_item.specs.Views.{ack_of, kind_of}
+use Rattle.read_ahead.specs.declared.progress.SendProgress.{SendProgress}
+use Rattle.read_ahead.specs.declared.supply.TrackSupply.{TrackSupply}
+use Rattle.read_ahead.specs.SendProgress.{entered}
+use Rattle.read_ahead.specs.Items.{kinds}
+use Rattle.butler.specs.Sends.{acks_of}
 use Rattle.butler.specs.Serving.{StandsFor, IsTended}
 use Rattle.butler.proofs.TableLemmas.{next_rises}
 
@@ -52,6 +53,7 @@ tended_later s edits cycles t old new failed p d grows is = record {
   room = is.room;
   closed = is.closed;
   stands = stands_later s edits cycles t (acks_of old) (acks_of new) p.progress (reverse (kinds d.sent)) (acks_grow old new grows) is.stands;
+  made = is.made;
 }
 
 -- ---- a later edition
@@ -115,3 +117,31 @@ module _ (s : Session) (edits : List Edit) (cycles t : ℕ) (acks : List Ack) (b
         passed = fits'.1.1;
         near = fits'.1.2;
       }
+
+-- what is from the edition of some edits is from the edition of more
+from_by : (s : Session) (old edits : List Edit) (t : ℕ) (x : Kind) → length old ≤ length edits → generation old (length old) ≤ generation edits (length edits) →
+    playlist_edition s old t (length old) ≤ playlist_edition s edits t (length edits) → is_from s old t (length old) x ≡ true → is_from s edits t (length edits) x ≡ true
+from_by s old edits t (Piece u g r p) long gen list h = grind (arith, h, gen, list)
+from_by s old edits t (Settled j g r) long gen list h = grind (arith, h, gen, long)
+from_by s old edits t Blank long gen list h = refl
+
+pub from_grows : (s : Session) (old more edits : List Edit) (t : ℕ) (x : Kind) → old ++ more ≡ edits → is_from s old t (length old) x ≡ true → is_from s edits t (length edits) x ≡ true
+from_grows s old more edits t x grows h =
+    let j = length old in let long : length old + length more ≡ length edits = sym (length-append old more) ∙ ap length grows in let le : j ≤ length edits = omega arith in
+    let gen : generation edits j ≡ generation old j = ap (λ es. generation es j) (sym grows) ∙ count_stays starts old more j (le_refl j) in
+    let list : playlist_edition s edits t j ≡ playlist_edition s old t j = ap (λ es. playlist_edition s es t j) (sym grows) ∙ last_stays (touches s t) old more j (le_refl j) in
+    from_by s old edits t x le
+    (subst (λ n. n ≤ generation edits (length edits)) gen (count_rises starts edits j (length edits) le))
+    (subst (λ n. n ≤ playlist_edition s edits t (length edits)) list (last_rises (touches s t) edits j (length edits) le)) h
+
+-- a track that entered an edition with its box as it was
+pub tended_entered : (s : Session) (old more edits : List Edit) (cycles t : ℕ) (acks : List Ack) (failed : Bool) (p q : TrackSupply) (d : Sender Item) (g n : ℕ) →
+    old ++ more ≡ edits → g ≡ generation edits (length edits) → n ≡ playlist_edition s edits t (length edits) → q ≡ record p { progress = entered g n p.progress } →
+    IsTended s old cycles t acks failed p d → IsTended s edits cycles t acks failed q d
+tended_entered s old more edits cycles t acks failed p q d g n grows g_is n_is is tended = subst (λ (z : TrackSupply). IsTended s edits cycles t acks failed z d) (sym is) record {
+  depth = tended.depth;
+  room = tended.room;
+  closed = tended.closed;
+  stands = stands_entered s edits cycles t acks (reverse (kinds d.sent)) old more p.progress g n grows g_is n_is tended.stands;
+  made = λ item has. from_grows s old more edits t (kind_of item.kind) grows (tended.made item record { made = has.made; box = has.box });
+}

@@ -1,20 +1,23 @@
--- Why the samples of a block are the track's, and why a butler keeps serving its session.
-pub mod SoundLemmas
-pub mod PartLemmas
-pub mod FollowLemmas
-pub mod RegionLemmas
-pub mod ListLemmas
-pub mod RunLemmas
+-- Why a butler keeps what it promises.
 pub mod TableLemmas
-pub mod ServeLemmas
-pub mod EnterLemmas
 pub mod StandLemmas
-pub mod StockLemmas
 pub mod AcceptLemmas
 pub mod KeepLemmas
-pub mod TurnLemmas
+pub mod StockLemmas
+pub mod TrueLemmas
 pub mod GenuineLemmas
-pub mod TurnStepsLemmas
 pub mod FirstLemmas
+pub mod BeginLemmas
+pub mod TurnLemmas
+pub mod SendingLemmas
+pub mod TurnStepsLemmas
+pub mod SendOnLemmas
+pub mod FlushedLemmas
+pub mod FaultLemmas
+pub mod AnswerLemmas
 pub mod MeetingLemmas
-mod LoopVectors
+pub mod SourceLemmas
+pub mod GrowLemmas
+pub mod FindLemmas
+pub mod RingMoveLemmas
+pub mod MoveLemmas

@@ -1,6 +1,7 @@
 -- The numbers of a track keep standing for what was sent of it.
 use Rattle.std.proofs.Common.{◌≡◌, ℕ, suc, ◌+◌, ◌-◌, ◌<◌, ◌≤◌, List, [], ◌∷◌, ◌++◌, length, refl, sym, ap, ◌∙◌, subst, arith, append_assoc}
 use Rattle.std.specs.Prelude.{Bool, true, false, ◌&&◌, ◌==◌, max, nat_lt, if◌then◌else◌, reverse, Option, Some, None}
+use Rattle.std.specs.List.{list_all}
 use Rattle.std.proofs.lemmas.Bool.{and_parts, ltb-true}
 use Rattle.std.proofs.lemmas.List.{reverse-append}
 use Rattle.std.proofs.lemmas.Option.{same_Some}
@@ -8,13 +9,14 @@ use Rattle.session_model.specs.declared.session.Session.{Session}
 use Rattle.session_model.specs.declared.edit.Edit.{Edit}
 use Rattle.engine_model.specs.Items.{Kind, Piece, Settled, Blank}
 use Rattle.engine_model.specs.Due.{Ack, Needs, needs, due, next_block}
+use Rattle.engine_laws.specs.Kept.{is_from}
 use Rattle.engine_laws.specs.Marks.{next_mark}
 use Rattle.engine_laws.specs.Tracked.{Tracked, due_now}
 use Rattle.engine_laws.proofs.DueLemmas.{due_after_is, revise_keeps, place_keeps, mark_keeps}
 use Rattle.engine_laws.proofs.MarkLemmas.{marked_is}
 use Rattle.engine_laws.proofs.SendLemmas.{send_keeps}
-use Rattle.butler.specs.declared.progress.SendProgress.{SendProgress}
-use Rattle.butler.specs.SendProgress.{now_due, advanced, AreDueInOrder}
+use Rattle.read_ahead.specs.declared.progress.SendProgress.{SendProgress}
+use Rattle.read_ahead.specs.SendProgress.{now_due, advanced, AreDueInOrder}
 use Rattle.butler.specs.Sends.{AreDue}
 use Rattle.butler.specs.Serving.{StandsFor}
 
@@ -167,3 +169,7 @@ module _ (s : Session) (edits : List Edit) (cycles t : ℕ) (acks : List Ack) wh
   run_stands a b before (x ∷ xs) st run = let step = step_stands a before x st run.0 in let rest = run_stands (advanced N.next a x) b (x ∷ before) xs step.0 run.1 in
       let onto : reverse xs ++ (x ∷ before) ≡ reverse (x ∷ xs) ++ before = sym (ap (λ l. l ++ before) (reverse-append (x ∷ []) xs) ∙ append_assoc (reverse xs) (x ∷ []) before) in
       ((due_is a before st ∙ run.0, rest.0), subst (St b) onto rest.1, (step.1, rest.2))
+
+  -- what is due is from the edition that was entered, and is named by it
+  pub due_from : (a : SendProgress) (before : List Kind) (x : Kind) → St a before → now_due N a ≡ Some x → (is_from s edits t (length edits) x ≡ true) × Names N x
+  due_from a before x st h = let step = step_stands a before x st h in ((and_parts (is_from s edits t (length edits) x) (list_all (is_from s edits t (length edits)) before) step.0.kept.from).0, step.1)

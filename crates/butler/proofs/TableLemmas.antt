@@ -12,7 +12,8 @@ use Rattle.piece_item.specs.Views.{ack_of}
 use Rattle.disk_ring.specs.Receiver.{Receiver, GoesOnOut}
 use Rattle.disk_ring.proofs.GoesOn.{goes_on_out_trans}
 use Rattle.butler.specs.Sends.{acks_of}
-use Rattle.butler.specs.Table.{IsTable, TakesAll}
+use Rattle.butler.specs.Table.{IsTable}
+use Rattle.capture_drain.specs.Drains.{IsDrained}
 
 pub next_more : (acks : List Ack) (a : Ack) (g : ℕ) → next_block (acks ++ a ∷ []) g ≡ (if a.generation == g then max a.next (next_block acks g) else next_block acks g)
 next_more [] a g = refl
@@ -39,7 +40,7 @@ pub acks_more : (acks : List Acknowledgement) (a : Acknowledgement) → acks_of 
 acks_more acks a = map-append ack_of acks (a ∷ [])
 
 -- the last look found nothing
-pub took_all : (z a b : Receiver Acknowledgement) (tail : ℕ) → GoesOnOut z a → a.tails ≡ z.tails → GoesOnOut a b → tail ≡ length a.received → b.tails ≡ a.tails ++ tail ∷ [] → b.received ≡ a.received → IsPrefix a.heard a.received → TakesAll z b
+pub took_all : (z a b : Receiver Acknowledgement) (tail : ℕ) → GoesOnOut z a → a.tails ≡ z.tails → GoesOnOut a b → tail ≡ length a.received → b.tails ≡ a.tails ++ tail ∷ [] → b.received ≡ a.received → IsPrefix a.heard a.received → IsDrained z b
 took_all z a b tail before same ring tail_is tails received heard = record {
   goes_on = goes_on_out_trans z a b before ring;
   tails = tails ∙ ap (λ ts. ts ++ tail ∷ []) same ∙ ap (λ n. z.tails ++ n ∷ []) (tail_is ∙ ap length (sym received));

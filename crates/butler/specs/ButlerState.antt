@@ -1,40 +1,86 @@
 -- What contracts see of a butler.
 use Rattle.std.specs.Prelude.{ℕ, Bool, List}
-use Rattle.audio_source.specs.Opened.{OpenedSource}
+use Rattle.ses_io.specs.Files.{Files}
+use Rattle.session_model.specs.declared.session.Session.{Session}
+use Rattle.session_model.specs.declared.edit.Edit.{Edit}
+use Rattle.audio_source.specs.Lines.{SourcesState}
 use Rattle.piece_item.specs.declared.butler_ends.ButlerEnds.{ButlerEnds}
-use Rattle.butler.specs.declared.supply.TrackSupply.{TrackSupply}
-
--- what the samples are read from: the media, and the sources that were opened
-pub record ReaderState (V : Type 0) : Type 0 where
-  pub media : V
-  pub sources : List OpenedSource
+use Rattle.read_ahead.specs.declared.supply.TrackSupply.{TrackSupply}
+use Rattle.capture_drain.specs.State.{DrainState}
+use Rattle.capture_drain.specs.Files.{RunStart}
 
 pub record ButlerState (V : Type 0) : Type 0 where
   pub media : V
-  pub sources : List OpenedSource
+  -- the sources that were opened, and the lines of them that are held
+  pub sources : SourcesState
+  -- the frames that there is room to render
+  pub room : ℕ
   -- how many cycles were asked
   pub cycles : ℕ
   pub ends : ButlerEnds
   -- of each track how far ahead it is, and a box to be filled
   pub supplies : List TrackSupply
+  -- the take files, and a box for each capture ring
+  pub drain : DrainState
   -- of each generation the greatest next block that was acknowledged
   pub nexts : List ℕ
-  -- whether a read failed
-  pub failed : Bool
+  -- the number of the edition that was entered last
+  pub entered : ℕ
+  -- whether a read failed, and whether a write did
+  pub read_failed : Bool
+  pub write_failed : Bool
 
 -- a butler whose ends are elsewhere
 pub record Rested (V : Type 0) : Type 0 where
   pub media : V
-  pub sources : List OpenedSource
+  pub sources : SourcesState
+  pub room : ℕ
   pub cycles : ℕ
   pub supplies : List TrackSupply
+  pub drain : DrainState
   pub nexts : List ℕ
+  pub entered : ℕ
   -- whether the ring of acknowledgements answered Closed
   pub ended : Bool
-  pub failed : Bool
+  pub read_failed : Bool
+  pub write_failed : Bool
 
 abbrev pub rested : {V : Type 0} → ButlerState V → Rested V
-rested b = record { media = b.media; sources = b.sources; cycles = b.cycles; supplies = b.supplies; nexts = b.nexts; ended = b.ends.acks.ended; failed = b.failed }
+rested b = record {
+  media = b.media;
+  sources = b.sources;
+  room = b.room;
+  cycles = b.cycles;
+  supplies = b.supplies;
+  drain = b.drain;
+  nexts = b.nexts;
+  entered = b.entered;
+  ended = b.ends.acks.ended;
+  read_failed = b.read_failed;
+  write_failed = b.write_failed;
+}
 
 abbrev pub resumed : {V : Type 0} → Rested V → ButlerEnds → ButlerState V
-resumed r ends = record { media = r.media; sources = r.sources; cycles = r.cycles; ends = ends; supplies = r.supplies; nexts = r.nexts; failed = r.failed }
+resumed r ends = record {
+  media = r.media;
+  sources = r.sources;
+  room = r.room;
+  cycles = r.cycles;
+  ends = ends;
+  supplies = r.supplies;
+  drain = r.drain;
+  nexts = r.nexts;
+  entered = r.entered;
+  read_failed = r.read_failed;
+  write_failed = r.write_failed;
+}
+
+-- what no butler holds and clauses speak of: the session that was opened, the files as the media held them then, and the edits that
+-- the butler entered last
+pub record Served : Type 0 where
+  pub session : Session
+  pub held : Files
+  pub edits : List Edit
+
+abbrev pub start_of : Served → RunStart
+start_of at = record { session = at.session; held = at.held }

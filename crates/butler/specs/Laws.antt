@@ -1,25 +1,43 @@
--- What is said of a butler whose ends met the process's.
-use Rattle.std.specs.Prelude.{◌≡◌, ℕ, List, length, slice_get, Some}
-use Rattle.sound_model.specs.Regions.{Sounds}
+-- What is said of a butler whose ends met the process's, and of the files of its sources.
+use Rattle.std.specs.Prelude.{◌≡◌, ℕ, List, ◌++◌, length, slice_get, Some, IsSome, codes}
+use Rattle.ses_io.specs.Files.{Files, HasNameUnder}
 use Rattle.session_model.specs.declared.session.Session.{Session}
 use Rattle.session_model.specs.declared.edit.Edit.{Edit}
+use Rattle.audio_source.specs.Opened.{OpenedSource}
 use Rattle.disk_ring.specs.Sender.{Sender}
+use Rattle.disk_ring.specs.Receiver.{Receiver}
 use Rattle.piece_item.specs.declared.item.Item.{Item}
+use Rattle.piece_item.specs.declared.take_block.TakeBlock.{TakeBlock}
 use Rattle.piece_item.specs.declared.butler_ends.ButlerEnds.{ButlerEnds}
+use Rattle.capture_flush.specs.Flushed.{IsFlushed, IsFlushedInPart}
+use Rattle.capture_drain.specs.Files.{RunStart, tape_of, OtherFilesStand}
 use Rattle.butler.specs.ButlerState.{Rested, resumed}
-use Rattle.butler.specs.Serving.{IsServing, AreStocked, AreGenuine}
+use Rattle.butler.specs.Serving.{IsServing, AreStocked, IsTrueTo, SourcesStand}
 
 -- the ends changed only in what they were told
 pub record AreTold (old new : ButlerEnds) : Type 0 where
   pub many : length new.sends.items ≡ length old.sends.items
-  -- of each track the number received
+  -- of each track the number received of what was sent
   pub sends : (t : ℕ) (d f : Sender Item) → slice_get old.sends.items t ≡ Some d → slice_get new.sends.items t ≡ Some f → f ≡ record d { got = f.got }
-  -- and of the acknowledgements what was sent
+  pub captures : length new.takes.items ≡ length old.takes.items
+  -- the blocks that were put
+  pub takes : (t : ℕ) (c b : Receiver TakeBlock) → slice_get old.takes.items t ≡ Some c → slice_get new.takes.items t ≡ Some b →
+      b ≡ record c { heard = b.heard; over = b.over }
+  -- and the acknowledgements
   pub acks : new.acks ≡ record old.acks { heard = new.acks.heard; over = new.acks.over }
 
--- A meeting leaves a butler that serves a session one that serves it, what is genuine genuine, and boxes that fit their rings.
+-- What a butler keeps when its ends meet the process's.
+pub record IsKeptBy {V : Type 0} (s : Session) (edits : List Edit) (r : Rested V) (old new : ButlerEnds) : Type 0 where
+  pub serving : IsServing s edits (resumed r old) → IsServing s edits (resumed r new)
+  pub stocked : AreStocked r.supplies r.drain old → AreStocked r.supplies r.drain new
+  pub true_to : (files : Files) → IsTrueTo files s edits (resumed r old) → IsTrueTo files s edits (resumed r new)
+  pub takes : (run : RunStart) (files : Files) → IsFlushed (tape_of run old.takes.items) r.drain.files files → IsFlushed (tape_of run new.takes.items) r.drain.files files
+  pub in_part : (run : RunStart) (files : Files) → IsFlushedInPart (tape_of run old.takes.items) files → IsFlushedInPart (tape_of run new.takes.items) files
+
 abbrev pub MeetingKeeps : Type 0 → Type 0
-MeetingKeeps V = (s : Session) (edits : List Edit) (r : Rested V) (old new : ButlerEnds) → AreTold old new →
-    (IsServing s edits (resumed r old) → IsServing s edits (resumed r new))
-    × (AreStocked r.supplies old.sends.items → AreStocked r.supplies new.sends.items)
-    × ((sounds : Sounds) → AreGenuine sounds s edits old.sends.items → AreGenuine sounds s edits new.sends.items)
+MeetingKeeps V = (s : Session) (edits : List Edit) (r : Rested V) (old new : ButlerEnds) → AreTold old new → IsKeptBy s edits r old new
+
+-- Where the sources were among the files and none was named as takes are, their files stand while only takes are written.
+abbrev pub SourcesAreNoTakes : Type 0
+SourcesAreNoTakes = (s : Session) (held files : Files) (opened : List OpenedSource) → ¬ (HasNameUnder held (s.takes ++ codes "-")) →
+    ((i : ℕ) (o : OpenedSource) → slice_get opened i ≡ Some o → IsSome (held o.file)) → OtherFilesStand s held files → SourcesStand held files opened

@@ -1,18 +1,16 @@
--- What is sent of a track in a turn. Items stand in the order of their ring, the oldest first; what was sent before a turn or
--- before an item stands newest first, as the definitions of the engine have it.
+-- What is sent of a track in a turn, in the words of a session. Items stand in the order of their ring, the oldest first; what was
+-- sent before a turn or before an item stands newest first, as the definitions of the engine have it.
 use Rattle.std.specs.Prelude.{◌≡◌, ◌⊎◌, ℕ, ◌≤◌, true, List, [], ◌∷◌, ◌++◌, map, length, reverse, Some, None}
 use Rattle.session_model.specs.declared.session.Session.{Session}
 use Rattle.session_model.specs.declared.edit.Edit.{Edit}
 use Rattle.engine_model.specs.Items as engine
 use Rattle.engine_model.specs.Due as engine_due
 use Rattle.engine_model.specs.Due.{due}
-use Rattle.disk_ring.specs.Sender.{Sender, FoundFull}
+use Rattle.disk_ring.specs.Sender.{Sender}
 use Rattle.piece_item.specs.declared.item.Item.{Item}
 use Rattle.piece_item.specs.declared.ack.Ack.{Ack}
-use Rattle.piece_item.specs.Views.{kind_of, ack_of}
-
-abbrev pub kinds : List Item → List engine.Kind
-kinds items = map (λ item. kind_of item.kind) items
+use Rattle.piece_item.specs.Views.{ack_of}
+use Rattle.read_ahead.specs.Items.{kinds, IsFoundFull}
 
 abbrev pub acks_of : List Ack → List engine_due.Ack
 acks_of acks = map ack_of acks
@@ -40,15 +38,6 @@ pub record SendsOf (s : Session) (edits : List Edit) (cycles t : ℕ) (acks : Li
   pub once : length full ≤ 1
   -- the number received that it knows of never falls
   pub got : old.got ≤ new.got
-
--- the ring was found full, and it is the last thing that was done to it
-pub record IsFoundFull (old new : Sender Item) : Type 0 where
-  -- by this head
-  pub head : ℕ
-  pub heads : new.heads ≡ old.heads ++ head ∷ []
-  pub full : FoundFull new head
-  -- no fewer were received by then than it knew of before
-  pub rises : old.got ≤ head
 
 -- track t has all that a turn can give it: its ring was closed by an earlier fault, or was found full, or nothing is due
 abbrev pub IsDone : Session → List Edit → ℕ → ℕ → List engine_due.Ack → Sender Item → Sender Item → Type 0

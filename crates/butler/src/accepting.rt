@@ -1,8 +1,9 @@
 //! Acknowledgements are taken, and of each generation the greatest next block is kept.
 ghost use Rattle.std.specs.Prelude.{◌≡◌, ◌≤◌, length, slice_index_or};
 ghost use Rattle.piece_item.specs.Views.{ack_of};
+ghost use Rattle.capture_drain.specs.Drains.{IsDrained};
 ghost use Rattle.butler.specs.Sends.{acks_of};
-ghost use Rattle.butler.specs.Table.{IsTable, Notes, TakesAll};
+ghost use Rattle.butler.specs.Table.{IsTable, Notes};
 
 use disk_ring::{Nothing, RingOut};
 use edition_log::Edition;
@@ -26,7 +27,7 @@ pub(crate) fn accept(
 ) -> (Box<Ack>, bool)
     requires room { acks.old.room ≡ 0 }
     ensures ended { result.1 ≡ acks.new.ended }
-    ensures taken { TakesAll acks.old acks.new }
+    ensures taken { IsDrained acks.old acks.new }
     ensures table { IsTable nexts.old (acks_of acks.old.received)
         → IsTable nexts.new (acks_of acks.new.received) }
 {

@@ -1,32 +1,53 @@
-//! A butler: in a turn it takes acknowledgements, enters the edition, and sends what is due of each track.
-ghost use Rattle.std.specs.Prelude.{◌≡◌, ◌<◌, false, [], length, IfOk, IfErr, Some};
-ghost use Rattle.ses_io.specs.Outside.{OnlyReads, ReadCause};
+//! A butler: in a turn it takes acknowledgements, enters the edition, flushes what was recorded, and sends what is due.
+ghost use Rattle.std.specs.Prelude.{◌≡◌, ◌<◌, ◌++◌, [], length, replicate, codes, IfOk, IfErr};
+ghost use Rattle.ses_io.specs.Files.{Files as AllFiles, HasNameUnder};
 ghost use Rattle.session_model.specs.declared.session.Session.{Session as Opening};
-ghost use Rattle.audio_source.specs.Told.{source_sound};
-ghost use Rattle.edition_log.specs.EditionState.{IsEditionState};
-ghost use Rattle.edition_log.specs.Entered.{Entered};
-ghost use Rattle.butler.specs.Sends.{acks_of};
-ghost use Rattle.butler.specs.Table.{IsTable, TakesAll};
-ghost use Rattle.butler.specs.Serving.{IsServing, AreStocked, MayBegin, IsGiven};
-ghost use Rattle.butler.specs.Serves.{AreEntered, IsReady, AllStocked};
-ghost use Rattle.butler.specs.Turns.{Enters, AllSend, StaysGenuine, Answers, Fails, KeepsRest};
-ghost use Rattle.butler.specs.Outcomes.{pass_of, Outcome};
+ghost use Rattle.capture_flush.specs.Flushed.{IsFlushed};
+ghost use Rattle.capture_flush.specs.Taking.{IsTakingOf};
+ghost use Rattle.capture_drain.specs.Files.{tape_of};
+ghost use Rattle.butler.specs.ButlerState.{Served};
+ghost use Rattle.butler.specs.Begins.{MayBegin, IsGiven};
+ghost use Rattle.butler.specs.Holds.{IsFirstOf};
+ghost use Rattle.butler.specs.Serving.{IsServing, IsTrueTo};
+ghost use Rattle.butler.specs.Turns.{Enters, Receives, TakesAreKept, AllSend, StaysTrue, Answers};
+ghost use Rattle.butler.specs.Faults.{Fails, KeepsRest};
 
-use crate::accepting::{accept, next_of};
-use crate::beginning::{supplies, table};
 use crate::faults::ButlerFault;
-use crate::pass::Pass;
-use crate::serving::{enter_all, send_all};
-use crate::supply::{Holdings, SourceReader};
-use crate::turning::Turn;
+use crate::turning::{Turn, turn_of};
 use audio_source::Sources;
+use capture_drain::CaptureDrain;
 use edition_log::Edition;
 use piece_item::{Ack, ButlerEnds};
-use ses_io::Media;
+use playlist_layers::Scratch;
+use read_ahead::{SourceReader, TrackSupply, supplies};
+use ses_io::{Media, NoMemory};
+use ses_units::limits::EDITS;
 use std::alloc::Global;
 use std::marker::Model;
 
-/// Reads ahead and sends. Between two calls it has one spare box for each ring.
+/// The generations that a table has: one more than there are edits.
+const GENERATIONS: usize = EDITS as usize + 1;
+
+/// What a butler holds beside its ends.
+#[derive(Drop)]
+pub(crate) struct Holdings<M: Media> {
+    pub(crate) reader: SourceReader<M>,
+    /// How many cycles were asked.
+    pub(crate) cycles: u32,
+    pub(crate) supplies: Vec<TrackSupply>,
+    pub(crate) drain: CaptureDrain,
+    /// Of each generation the greatest next block that was acknowledged.
+    pub(crate) nexts: Vec<u32>,
+    pub(crate) husk: Option<Box<Ack>>,
+    /// The number of the edition that was entered last.
+    pub(crate) entered: u32,
+    /// Whether the ring of acknowledgements has answered Closed.
+    pub(crate) ended: bool,
+    pub(crate) read_failed: bool,
+    pub(crate) write_failed: bool,
+}
+
+/// Reads ahead and sends, and flushes what was recorded. Between two calls it has one spare box for each ring.
 #[derive(Drop)]
 pub struct Butler<M: Media> {
     pub(crate) holds: Holdings<M>,
@@ -43,20 +64,79 @@ impl<M: Media> Model for Butler<M> {
     ghost view = { λ b. record {
       media = b.holds.reader.media;
       sources = b.holds.reader.sources;
+      room = b.holds.reader.room;
       cycles = b.holds.cycles;
       ends = b.ends;
       supplies = b.holds.supplies.items;
+      drain = b.holds.drain;
       nexts = b.holds.nexts.items;
-      failed = b.holds.failed;
+      entered = b.holds.entered;
+      read_failed = b.holds.read_failed;
+      write_failed = b.holds.write_failed;
     } };
 
-    ghost invariant = { λ b. AreStocked b.holds.supplies.items b.ends.sends.items
+    ghost invariant = { λ b. AreStocked b.holds.supplies.items b.holds.drain b.ends
         × (length b.holds.nexts.items ≡ 10001)
         × IsSome b.holds.husk × (b.holds.ended ≡ b.ends.acks.ended) };
 }
 
+// A table of zeros.
+fn table(alloc: Global) -> Result<Vec<u32>, NoMemory>
+    ensures { IfOk result (λ v. v.items ≡ replicate 10001 0) }
+{
+    let nexts = vec![in alloc; 0; GENERATIONS]?;
+    Ok(nexts)
+}
+
+// What a butler holds that did nothing yet.
+fn first_holdings<M: Media>(
+    alloc: Global,
+    media: M,
+    sources: Sources,
+    e: &Edition,
+    cycles: u32,
+) -> Result<Holdings<M>, M>
+    ensures first { IfOk result (IsFirstOf media sources e.now cycles) }
+    ensures taking { IfOk result (λ h. IsTakingOf e.now.session h.drain.files) }
+    ensures back { IfErr result (λ m. m ≡ media) }
+{
+    let session = e.session();
+    let Ok(supplies) = supplies(alloc, e) else {
+        return Err(media);
+    };
+    let Ok(drain) = CaptureDrain::new(alloc, session) else {
+        return Err(media);
+    };
+    let Ok(scratch) = Scratch::new(alloc, session.block) else {
+        return Err(media);
+    };
+    let Ok(nexts) = table(alloc) else {
+        return Err(media);
+    };
+    let Ok(husk) = Ack::blank(alloc) else {
+        return Err(media);
+    };
+    Ok(Holdings {
+        reader: SourceReader {
+            media,
+            sources,
+            scratch,
+        },
+        cycles,
+        supplies,
+        drain,
+        nexts,
+        husk: Some(husk),
+        entered: e.number(),
+        ended: false,
+        read_failed: false,
+        write_failed: false,
+    })
+}
+
 impl<M: Media> Butler<M> {
-    /// A butler that sent nothing yet, with the memory of all its turns. Err is want of memory, and gives the media back.
+    /// A butler that sent and flushed nothing yet, with the memory of all its turns. Err is want of memory, and gives the
+    /// media back.
     pub fn new(
         alloc: Global,
         media: M,
@@ -70,111 +150,42 @@ impl<M: Media> Butler<M> {
         requires held { sources.held ≡ [] }
         ensures serving { IfOk result (IsServing s e.now.edits) }
         ensures given { IfOk result (IsGiven media sources.opened cycles ends) }
+        ensures true_to { IfOk result (λ b. (files : AllFiles) → IsTrueTo files s e.now.edits b) }
+        ensures no_take { IfOk result (λ b. (held : AllFiles)
+            → ¬ (HasNameUnder held (s.takes ++ codes "-"))
+            → IsFlushed (tape_of (record { session = s; held = held }) b.ends.takes.items)
+            b.drain.files held) }
         ensures back { IfErr result (λ m. m ≡ media) }
     {
-        let Ok(supplies) = supplies(alloc, e) else {
-            return Err(media);
-        };
-        let Ok(nexts) = table(alloc) else {
-            return Err(media);
-        };
-        let Ok(husk) = Ack::blank(alloc) else {
-            return Err(media);
-        };
-        let holds = Holdings {
-            reader: SourceReader { media, sources },
-            cycles,
-            supplies,
-            nexts,
-            husk: Some(husk),
-            ended: false,
-            failed: false,
-        };
+        let holds = first_holdings(alloc, media, sources, e, cycles)?;
         Ok(Butler { holds, ends })
     }
 
-    /// Takes acknowledgements until there is none, enters the edition, and sends what is due of each track in order, at
-    /// most so many items. It takes no memory. After a fault all playback rings are closed, and further turns send nothing.
+    /// Takes acknowledgements until there is none, enters the edition, flushes blocks of the capture rings into the files
+    /// of takes, and sends what is due of each track in order, in all at most so many. It takes no memory. After a
+    /// ReadFault all playback rings are closed, and further turns send nothing; after a WriteFault they flush nothing.
     pub fn turn(&mut self, e: &Edition, most: u32) -> Result<Turn, ButlerFault>
-        ghost at: { Entered }
+        ghost at: { Served }
         requires enters { Enters at self.old e.now }
         requires some { 0 < most }
         ensures serving { IsServing at.session e.now.edits self.new }
+        ensures receives { Receives self.old self.new }
+        ensures takes { M.outside.tells → TakesAreKept at (M.outside.files self.old.media)
+            (M.outside.files self.new.media) self.old result self.new }
         ensures sends { AllSend at.session e.now self.old self.new }
-        ensures genuine { M.outside.tells → StaysGenuine M.outside at e.now self.old self.new }
-        ensures acks { TakesAll self.old.ends.acks self.new.ends.acks }
+        ensures stays_true { M.outside.tells → StaysTrue M.outside at e.now self.old self.new }
         ensures answer { Answers at.session e.now most self.old result self.new }
-        ensures failed { Fails self.old result self.new }
-        ensures rest { KeepsRest M.outside self.old self.new }
-        ensures cause { ReadCause M.outside self.old.media self.new.media result }
+        ensures fails { Fails M.outside self.old result self.new }
+        ensures rest { KeepsRest M.outside at.session e.now self.old self.new }
     {
         self.accept();
         self.enter(e);
-        self.send(e, most)
-    }
-
-    // Takes acknowledgements until there is none.
-    fn accept(&mut self)
-        requires { self.old.ends.acks.room ≡ 0 }
-        ensures acks { TakesAll self.old.ends.acks self.new.ends.acks }
-        ensures table { IsTable self.old.nexts (acks_of self.old.ends.acks.received)
-            → IsTable self.new.nexts (acks_of self.new.ends.acks.received) }
-        ensures same { self.new ≡ record self.old {
-          ends = record self.old.ends { acks = self.new.ends.acks };
-          nexts = self.new.nexts;
-        } }
-    {
-        let Some(husk) = self.holds.husk.take() else {
-            unreachable!()
+        let Ok(flushed) = self.flush(most) else {
+            return Err(ButlerFault::WriteFault);
         };
-        let (husk, ended) = accept(&mut self.ends.acks, husk, &mut self.holds.nexts);
-        self.holds.husk = Some(husk);
-        self.holds.ended = ended;
-    }
-
-    // Enters an edition for each track.
-    fn enter(&mut self, e: &Edition)
-        requires { length self.old.supplies ≡ length e.now.session.tracks.items }
-        ensures entered { AreEntered e.now self.old.supplies self.new.supplies }
-        ensures same { self.new ≡ record self.old { supplies = self.new.supplies } }
-        ensures stocked { AreStocked self.new.supplies self.new.ends.sends.items }
-        ensures seen { IsEditionState e.now }
-    {
-        enter_all(e, &mut self.holds.supplies);
-    }
-
-    // Sends what is due, at most so many items, unless a read failed before.
-    fn send(&mut self, e: &Edition, most: u32) -> Result<Turn, ButlerFault>
-        requires seen { IsEditionState e.now }
-        requires ready { IsReady self.old.sources (pass_of e.now self.old) }
-        requires tracks { length self.old.supplies ≡ length e.now.session.tracks.items }
-        requires stocked { self.old.failed ≡ false
-            → AllStocked e.now.session.block self.old.supplies self.old.ends.sends.items }
-        requires some { 0 < most }
-        ensures outcome { Outcome M.outside.tells
-            (source_sound (M.outside.files self.old.media) self.old.sources)
-            e.now most self.old result self.new }
-        ensures rest { self.new ≡ record self.old {
-          media = self.new.media;
-          ends = record self.old.ends { sends = self.new.ends.sends };
-          supplies = self.new.supplies;
-          failed = self.new.failed;
-        } }
-        ensures only_reads { OnlyReads M.outside self.old.media self.new.media }
-        ensures cause { ReadCause M.outside self.old.media self.new.media result }
-    {
-        let holds = &mut self.holds;
-        if holds.failed {
-            return Ok(Turn::Idle);
-        }
-        let pass = Pass {
-            edition: e,
-            next: next_of(&holds.nexts, e),
-            cycles: holds.cycles,
+        let Ok(sent) = self.send(e, most - flushed) else {
+            return Err(ButlerFault::ReadFault);
         };
-        let sends = self.ends.sends.as_mut_slice();
-        let answer = send_all(&mut holds.reader, &pass, &mut holds.supplies, sends, most);
-        holds.failed = answer.is_err();
-        answer
+        Ok(turn_of(flushed + sent))
     }
 }

@@ -1,23 +1,17 @@
-//! The butler: it reads ahead, and sends each track's pieces and marks before they are played.
+//! The butler, the thread that does the disk work: it reads ahead and sends each track's pieces and marks before they are
+//! played, and writes the blocks that were recorded into the files of their takes.
 #![tactic(auto)]
 
 mod accepting;
-mod beginning;
 mod butler;
 mod faults;
 mod laws;
-mod pass;
-mod progress;
-mod render;
 mod resting;
-mod sending;
-mod serving;
-mod supply;
-mod target;
+mod steps;
 mod turning;
 
 pub use butler::Butler;
 pub use faults::ButlerFault;
-pub use laws::meeting_keeps;
+pub use laws::{a_turn_of_one_is_one_move, meeting_keeps, sources_are_no_takes};
 pub use resting::{ButlerParts, Resting};
 pub use turning::Turn;

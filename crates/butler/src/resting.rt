@@ -1,10 +1,11 @@
 //! A butler gives its ends out and takes them back, or gives all back.
-ghost use Rattle.std.specs.Prelude.{◌≡◌};
+ghost use Rattle.std.specs.Prelude.{◌≡◌, if◌then◌else◌};
+ghost use Rattle.std.specs.List.{list_all};
 ghost use Rattle.butler.specs.ButlerState.{rested, resumed};
 ghost use Rattle.butler.specs.Serving.{AreStocked};
 
-use crate::butler::Butler;
-use crate::supply::Holdings;
+use crate::butler::{Butler, Holdings};
+use capture_flush::TakeFiles;
 use piece_item::ButlerEnds;
 use ses_io::Media;
 use std::marker::Model;
@@ -12,8 +13,10 @@ use std::marker::Model;
 /// What a butler gives back.
 #[derive(Drop)]
 pub struct ButlerParts<M> {
-    /// The media that it read from.
+    /// The media that it read from and wrote to.
     pub media: M,
+    /// The take files, which are still to be finished.
+    pub files: TakeFiles,
     /// Its ends of the rings.
     pub ends: ButlerEnds,
 }
@@ -33,39 +36,50 @@ impl<M: Media> Model for Resting<M> {
     ghost view = { λ r. record {
       media = r.holds.reader.media;
       sources = r.holds.reader.sources;
+      room = r.holds.reader.room;
       cycles = r.holds.cycles;
       supplies = r.holds.supplies.items;
+      drain = r.holds.drain;
       nexts = r.holds.nexts.items;
+      entered = r.holds.entered;
       ended = r.holds.ended;
-      failed = r.holds.failed;
+      read_failed = r.holds.read_failed;
+      write_failed = r.holds.write_failed;
     } };
 
     ghost invariant = { λ r. (length r.holds.nexts.items ≡ 10001) × IsSome r.holds.husk };
 }
 
 impl<M: Media> Butler<M> {
-    /// Whether the ring of acknowledgements has answered Closed.
+    /// Whether every capture ring has answered Closed; after a WriteFault, whether the ring of acknowledgements has.
     pub fn over(&self) -> bool
-        ensures { result ≡ self.now.ends.acks.ended }
+        ensures { result ≡ (if self.now.write_failed then self.now.ends.acks.ended
+            else list_all (λ r. r.ended) self.now.ends.takes.items) }
     {
-        self.holds.ended
+        if self.holds.write_failed {
+            self.holds.ended
+        } else {
+            self.holds.drain.ended()
+        }
     }
 
-    /// Gives the media and the ends back as they stand.
+    /// Gives the media, the take files and the ends back as they stand.
     pub fn parts(self) -> ButlerParts<M>
         ensures media { result.media ≡ self.media }
+        ensures files { result.files ≡ self.drain.files }
         ensures ends { result.ends ≡ self.ends }
     {
         let Butler { holds, ends } = self;
+        let files = holds.drain.into_files();
         let media = holds.reader.media;
-        ButlerParts { media, ends }
+        ButlerParts { media, files, ends }
     }
 
     /// Hands the ends out, and keeps the rest.
     pub fn rest(self) -> (Resting<M>, ButlerEnds)
         ensures rested { result.0 ≡ rested self }
         ensures ends { result.1 ≡ self.ends }
-        ensures stocked { AreStocked result.0.supplies result.1.sends.items }
+        ensures stocked { AreStocked result.0.supplies result.0.drain result.1 }
     {
         let resting = Resting { holds: self.holds };
         (resting, self.ends)
@@ -73,9 +87,9 @@ impl<M: Media> Butler<M> {
 }
 
 impl<M: Media> Resting<M> {
-    /// The butler with these ends: as many playback rings as before, of the rooms that they had.
+    /// The butler with these ends: two rings of each track as before, of the rooms that they had.
     pub fn resume(self, ends: ButlerEnds) -> Butler<M>
-        requires stocked { AreStocked self.supplies ends.sends.items }
+        requires stocked { AreStocked self.supplies self.drain ends }
         requires ended { ends.acks.ended ≡ self.ended }
         ensures { result ≡ resumed self ends }
     {

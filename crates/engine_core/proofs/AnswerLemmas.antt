@@ -5,10 +5,10 @@ use Rattle.std.proofs.lemmas.Bool.{true≢false}
 use Rattle.ses_io.specs.Faults.{HasCause, risen}
 use Rattle.disk_ring.specs.Sender.{Sender}
 use Rattle.piece_item.specs.declared.item.Item.{Item}
-use Rattle.butler.specs.declared.turning.Turn.{Turn}
-use Rattle.butler.specs.declared.turning.Turn.TheVariants.{Moved, Idle}
-use Rattle.butler.specs.declared.faults.ButlerFault.{ButlerFault}
-use Rattle.butler.specs.Turns.{total_sent}
+use Rattle.plain_butler.specs.declared.turning.Turn.{Turn}
+use Rattle.plain_butler.specs.declared.turning.Turn.TheVariants.{Moved, Idle}
+use Rattle.plain_butler.specs.declared.faults.ButlerFault.{ButlerFault}
+use Rattle.plain_butler.specs.Turns.{total_sent}
 use Rattle.engine_core.specs.Answers.{is_idle, with_fault}
 use Rattle.engine_core.specs.Serial.{IsCounted}
 use Rattle.engine_core.proofs.SendsLemmas.{most}

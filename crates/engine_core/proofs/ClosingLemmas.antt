@@ -9,15 +9,15 @@ use Rattle.piece_item.specs.declared.item.Item.{Item}
 use Rattle.piece_item.specs.declared.butler_ends.ButlerEnds.{ButlerEnds}
 use Rattle.process_cycle.specs.declared.ends.ProcessEnds.{ProcessEnds}
 use Rattle.process_cycle.specs.Ends.{EndsMeet}
-use Rattle.butler.specs.declared.turning.Turn.{Turn}
-use Rattle.butler.specs.declared.faults.ButlerFault.{ButlerFault}
-use Rattle.butler.specs.ButlerState.{ButlerState as Butler, rested}
-use Rattle.butler.specs.Sends.{acks_of}
-use Rattle.butler.specs.Serving.{IsServing, AreGenuine, AreStocked}
-use Rattle.butler.specs.Table.{TakesAll}
-use Rattle.butler.specs.Turns.{TurnAnswers, AllSend, Answers, Fails, KeepsRest}
+use Rattle.plain_butler.specs.declared.turning.Turn.{Turn}
+use Rattle.plain_butler.specs.declared.faults.ButlerFault.{ButlerFault}
+use Rattle.plain_butler.specs.ButlerState.{ButlerState as Butler, rested}
+use Rattle.plain_butler.specs.Sends.{acks_of}
+use Rattle.plain_butler.specs.Serving.{IsServing, AreGenuine, AreStocked}
+use Rattle.plain_butler.specs.Table.{TakesAll}
+use Rattle.plain_butler.specs.Turns.{TurnAnswers, AllSend, Answers, Fails, KeepsRest}
 use Rattle.edition_log.specs.EditionState.{EditionState as Edition}
-use Rattle.butler.proofs.MeetingLemmas.{meeting_keeps}
+use Rattle.plain_butler.proofs.MeetingLemmas.{meeting_keeps}
 use Rattle.engine_core.specs.declared.closing.Closing.{Closing}
 use Rattle.engine_core.specs.Ending.{ClosesARun, HearsMore, SendsMore, LastTurnsKeep}
 use Rattle.engine_core.specs.Serial.{AreOpen}

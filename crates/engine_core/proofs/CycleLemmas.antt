@@ -32,8 +32,8 @@ use Rattle.process_cycle.specs.SpareBoxes.{received_kinds}
 use Rattle.process_cycle.specs.Made.{Acknowledges, Cycles, MayCycle, ack_of, next_entry}
 use Rattle.process_cycle.specs.Playing.{IsPlaying}
 use Rattle.process_cycle.specs.ProcessState.{ProcessState as Process, entries_of}
-use Rattle.butler.specs.Sends.{acks_of, kinds}
-use Rattle.butler.proofs.TableLemmas.{next_more}
+use Rattle.plain_butler.specs.Sends.{acks_of, kinds}
+use Rattle.plain_butler.proofs.TableLemmas.{next_more}
 use Rattle.engine_core.specs.declared.engine.Core.{Core}
 use Rattle.engine_core.specs.Running.{Runs, HasMet, HasLookedAround, IsTrueOfAll, received, noted}
 use Rattle.engine_core.specs.Plainly.{RunsPlainly, HasTaken, HasReceived, IsIdle, AreReady, generation_now, next_now}

@@ -24,8 +24,8 @@ use Rattle.piece_item.specs.Views.{item_of, kind_of}
 use Rattle.process_cycle.specs.declared.ends.ProcessEnds.{ProcessEnds}
 use Rattle.process_cycle.specs.declared.finished.TrackRings.{TrackRings}
 use Rattle.process_cycle.specs.Ends.{AreOfOneRing, AreOtherEnds, shut, shut_ends}
-use Rattle.butler.specs.Sends.{kinds}
-use Rattle.butler.specs.Serving.{AreGenuine}
+use Rattle.plain_butler.specs.Sends.{kinds}
+use Rattle.plain_butler.specs.Serving.{AreGenuine}
 use Rattle.engine_core.specs.declared.closing.Closing.{Closing}
 use Rattle.engine_core.specs.declared.engine.Core.{Core}
 use Rattle.engine_core.specs.Rings.{AllWhole, joined_all}

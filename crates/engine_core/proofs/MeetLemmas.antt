@@ -23,11 +23,11 @@ use Rattle.process_cycle.specs.SpareBoxes.{received_kinds}
 use Rattle.process_cycle.specs.Ends.{AllMeet, AreOfOneRing, AreOtherEnds, EndsMeet, Meet}
 use Rattle.process_cycle.specs.Playing.{IsPlaying}
 use Rattle.process_cycle.specs.ProcessState.{entries_of}
-use Rattle.butler.specs.ButlerState.{rested}
-use Rattle.butler.specs.Laws.{AreTold}
-use Rattle.butler.specs.Sends.{kinds}
-use Rattle.butler.specs.Serving.{IsServing}
-use Rattle.butler.proofs.MeetingLemmas.{meeting_keeps}
+use Rattle.plain_butler.specs.ButlerState.{rested}
+use Rattle.plain_butler.specs.Laws.{AreTold}
+use Rattle.plain_butler.specs.Sends.{kinds}
+use Rattle.plain_butler.specs.Serving.{IsServing}
+use Rattle.plain_butler.proofs.MeetingLemmas.{meeting_keeps}
 use Rattle.engine_core.specs.declared.engine.Core.{Core}
 use Rattle.engine_core.specs.Running.{Runs, HasMet, HasLookedAround, IsTrueOfAll, KnowAll, WasLookedAt, noted}
 

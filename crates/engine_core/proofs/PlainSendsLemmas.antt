@@ -19,8 +19,8 @@ use Rattle.engine_laws.proofs.SerialLemmas.{few_are_sent}
 use Rattle.disk_ring.specs.Sender.{Sender}
 use Rattle.piece_item.specs.declared.item.Item.{Item}
 use Rattle.piece_item.specs.Views.{kind_of}
-use Rattle.butler.specs.Sends.{kinds, AreDue, SendsOf}
-use Rattle.butler.specs.Turns.{total_sent}
+use Rattle.plain_butler.specs.Sends.{kinds, AreDue, SendsOf}
+use Rattle.plain_butler.specs.Turns.{total_sent}
 use Rattle.engine_core.specs.Plainly.{IsPlainTrack, EndsHeld}
 use Rattle.engine_core.proofs.JoiningLemmas.{empty_of}
 

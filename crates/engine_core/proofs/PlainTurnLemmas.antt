@@ -12,15 +12,15 @@ use Rattle.disk_ring.specs.Sender.{Sender}
 use Rattle.disk_ring.specs.Receiver.{Receiver}
 use Rattle.piece_item.specs.declared.item.Item.{Item}
 use Rattle.piece_item.specs.Views.{ack_of, kind_of}
-use Rattle.butler.specs.declared.turning.Turn.{Turn}
-use Rattle.butler.specs.declared.turning.Turn.TheVariants.{Moved, Idle}
-use Rattle.butler.specs.declared.faults.ButlerFault.{ButlerFault}
-use Rattle.butler.specs.ButlerState.{ButlerState as Butler}
-use Rattle.butler.specs.Sends.{kinds, acks_of, SendsOf, IsDone}
-use Rattle.butler.specs.Table.{TakesAll}
+use Rattle.plain_butler.specs.declared.turning.Turn.{Turn}
+use Rattle.plain_butler.specs.declared.turning.Turn.TheVariants.{Moved, Idle}
+use Rattle.plain_butler.specs.declared.faults.ButlerFault.{ButlerFault}
+use Rattle.plain_butler.specs.ButlerState.{ButlerState as Butler}
+use Rattle.plain_butler.specs.Sends.{kinds, acks_of, SendsOf, IsDone}
+use Rattle.plain_butler.specs.Table.{TakesAll}
 use Rattle.ses_io.specs.Outside.{MediaOutside}
-use Rattle.butler.specs.Turns.{TurnAnswers, KeepsRest, Leaves}
-use Rattle.butler.proofs.TableLemmas.{next_rises}
+use Rattle.plain_butler.specs.Turns.{TurnAnswers, KeepsRest, Leaves}
+use Rattle.plain_butler.proofs.TableLemmas.{next_rises}
 use Rattle.engine_core.specs.declared.engine.Core.{Core}
 use Rattle.engine_core.specs.Running.{Runs, HasMet}
 use Rattle.engine_core.specs.Plainly.{IsPlainTrack, RunsPlainly, HasTaken, EndsHeld, HasReceived, IsIdle, TurnsPlainly, next_taken, generation_now}

@@ -29,7 +29,7 @@ use Rattle.process_cycle.specs.SpareBoxes.{offers, received_kinds, HoldsTheLast}
 use Rattle.process_cycle.specs.Looks.{EndsWith, HasAllTold}
 use Rattle.process_cycle.specs.Playing.{IsPlaying, position_of}
 use Rattle.process_cycle.specs.ProcessState.{ProcessState as Process, entries_of}
-use Rattle.butler.specs.Sends.{kinds, acks_of}
+use Rattle.plain_butler.specs.Sends.{kinds, acks_of}
 use Rattle.engine_core.specs.declared.engine.Core.{Core}
 use Rattle.engine_core.specs.Running.{Runs, HasMet}
 use Rattle.engine_core.specs.Steps.{Meets}

@@ -26,7 +26,7 @@ use Rattle.edition_log.specs.EditionState.{EditionState as Edition, IsOpen}
 use Rattle.piece_item.specs.declared.item.Item.{Item}
 use Rattle.piece_item.specs.Views.{item_of}
 use Rattle.process_cycle.specs.declared.finished.Faults.{Faults}
-use Rattle.butler.specs.Serving.{AreGenuine}
+use Rattle.plain_butler.specs.Serving.{AreGenuine}
 use Rattle.engine_core.specs.declared.finishing.Closed.{Closed}
 use Rattle.engine_core.specs.declared.finishing.Ended.{Ended}
 use Rattle.engine_core.specs.declared.serial.Run.{Run}

@@ -11,9 +11,9 @@ use Rattle.piece_item.specs.declared.butler_ends.ButlerEnds.{ButlerEnds}
 use Rattle.process_cycle.specs.Answers as Look
 use Rattle.process_cycle.specs.Playing.{IsPlaying}
 use Rattle.process_cycle.specs.ProcessState.{ProcessState as Process}
-use Rattle.butler.specs.ButlerState.{ButlerState as Butler}
-use Rattle.butler.specs.Serving.{AreGenuine, IsServing}
-use Rattle.butler.specs.Turns.{Enters, KeepsRest, StaysGenuine, sounds_read}
+use Rattle.plain_butler.specs.ButlerState.{ButlerState as Butler}
+use Rattle.plain_butler.specs.Serving.{AreGenuine, IsServing}
+use Rattle.plain_butler.specs.Turns.{Enters, KeepsRest, StaysGenuine, sounds_read}
 use Rattle.engine_core.specs.Begun.{Begun, all_entered}
 use Rattle.engine_core.specs.RunInvariant.{SendsBy}
 

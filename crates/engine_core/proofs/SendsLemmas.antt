@@ -11,11 +11,11 @@ use Rattle.disk_ring.specs.Sender.{Sender}
 use Rattle.disk_ring.specs.Receiver.{Receiver}
 use Rattle.piece_item.specs.declared.item.Item.{Item}
 use Rattle.process_cycle.specs.Ends.{AllMeet, AreOfOneRing}
-use Rattle.butler.specs.declared.turning.Turn.{Turn}
-use Rattle.butler.specs.declared.turning.Turn.TheVariants.{Moved, Idle}
-use Rattle.butler.specs.declared.faults.ButlerFault.{ButlerFault}
-use Rattle.butler.specs.Sends.{SendsOf}
-use Rattle.butler.specs.Turns.{TurnAnswers, total_sent}
+use Rattle.plain_butler.specs.declared.turning.Turn.{Turn}
+use Rattle.plain_butler.specs.declared.turning.Turn.TheVariants.{Moved, Idle}
+use Rattle.plain_butler.specs.declared.faults.ButlerFault.{ButlerFault}
+use Rattle.plain_butler.specs.Sends.{SendsOf}
+use Rattle.plain_butler.specs.Turns.{TurnAnswers, total_sent}
 use Rattle.engine_core.specs.Serial.{AreOpen}
 use Rattle.engine_core.proofs.MeetLemmas.{item_at, some_receiver, told_of}
 use Rattle.engine_core.proofs.PlainSendsLemmas.{never_less}

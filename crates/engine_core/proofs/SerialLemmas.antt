@@ -12,11 +12,11 @@ use Rattle.process_cycle.specs.declared.cycling.CycleFault.{CycleFault}
 use Rattle.process_cycle.specs.Ends.{AreOtherEnds}
 use Rattle.process_cycle.specs.Made.{Cycles}
 use Rattle.process_cycle.specs.ProcessState.{ProcessState as Process}
-use Rattle.butler.specs.declared.turning.Turn.{Turn}
-use Rattle.butler.specs.declared.turning.Turn.TheVariants.{Moved}
-use Rattle.butler.specs.declared.faults.ButlerFault.{ButlerFault}
-use Rattle.butler.specs.Sends.{acks_of}
-use Rattle.butler.specs.Turns.{TurnAnswers, total_sent}
+use Rattle.plain_butler.specs.declared.turning.Turn.{Turn}
+use Rattle.plain_butler.specs.declared.turning.Turn.TheVariants.{Moved}
+use Rattle.plain_butler.specs.declared.faults.ButlerFault.{ButlerFault}
+use Rattle.plain_butler.specs.Sends.{acks_of}
+use Rattle.plain_butler.specs.Turns.{TurnAnswers, total_sent}
 use Rattle.engine_core.specs.declared.engine.Core.{Core}
 use Rattle.engine_core.specs.Running.{Runs}
 use Rattle.engine_core.specs.Steps.{Meets, Turns, LooksAround, PlaysOn}

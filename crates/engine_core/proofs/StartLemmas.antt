@@ -30,10 +30,10 @@ use Rattle.process_cycle.specs.Ends.{AreNew, AreOfOneRing, AreOtherEnds, IsNewIn
 use Rattle.process_cycle.specs.SpareBoxes.{received_kinds}
 use Rattle.process_cycle.specs.Playing.{IsPlaying, position_of}
 use Rattle.process_cycle.specs.ProcessState.{ProcessState as Process, entries_of}
-use Rattle.butler.specs.ButlerState.{ButlerState as Butler}
-use Rattle.butler.specs.Sends.{acks_of, kinds}
-use Rattle.butler.specs.Serving.{IsGiven, IsServing, MayBegin}
-use Rattle.butler.proofs.KeepLemmas.{session_is}
+use Rattle.plain_butler.specs.ButlerState.{ButlerState as Butler}
+use Rattle.plain_butler.specs.Sends.{acks_of, kinds}
+use Rattle.plain_butler.specs.Serving.{IsGiven, IsServing, MayBegin}
+use Rattle.plain_butler.proofs.KeepLemmas.{session_is}
 use Rattle.engine_core.specs.declared.engine.Core.{Core}
 use Rattle.engine_core.specs.declared.run_ends.RunEnds.{RunEnds}
 use Rattle.engine_core.specs.Rings.{AreRings, IsRing}

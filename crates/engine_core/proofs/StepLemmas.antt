@@ -35,11 +35,11 @@ use Rattle.process_cycle.specs.SpareBoxes.{held, offers, received_kinds, HoldsTh
 use Rattle.process_cycle.specs.Looks.{EndsWith, Looks}
 use Rattle.process_cycle.specs.Playing.{IsPlaying, position_of}
 use Rattle.process_cycle.specs.ProcessState.{ProcessState as Process, entries_of}
-use Rattle.butler.specs.ButlerState.{ButlerState as Butler}
-use Rattle.butler.specs.Sends.{kinds, acks_of, SendsOf}
-use Rattle.butler.specs.Serving.{IsServing}
-use Rattle.butler.specs.Table.{TakesAll}
-use Rattle.butler.specs.Turns.{KeepsRest}
+use Rattle.plain_butler.specs.ButlerState.{ButlerState as Butler}
+use Rattle.plain_butler.specs.Sends.{kinds, acks_of, SendsOf}
+use Rattle.plain_butler.specs.Serving.{IsServing}
+use Rattle.plain_butler.specs.Table.{TakesAll}
+use Rattle.plain_butler.specs.Turns.{KeepsRest}
 use Rattle.ses_io.specs.Outside.{MediaOutside}
 use Rattle.engine_core.specs.declared.engine.Core.{Core}
 use Rattle.engine_core.specs.Running.{Runs, HasMet, HasLookedAround, received, noted}

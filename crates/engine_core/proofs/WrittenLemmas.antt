@@ -35,7 +35,7 @@ use Rattle.process_cycle.specs.Ends.{AreOtherEnds}
 use Rattle.process_cycle.specs.SpareBoxes.{received_items, received_kinds}
 use Rattle.process_cycle.specs.Made.{Cycles, next_block, next_entry}
 use Rattle.process_cycle.specs.ProcessState.{ProcessState as Process, entries_of}
-use Rattle.butler.specs.Serving.{AreGenuine}
+use Rattle.plain_butler.specs.Serving.{AreGenuine}
 use Rattle.engine_core.specs.declared.engine.Core.{Core}
 use Rattle.engine_core.specs.Running.{HasMet, HasLookedAround, received, noted}
 use Rattle.engine_core.specs.Steps.{Meets, PlaysOn}

@@ -6,11 +6,11 @@ use Rattle.edition_log.specs.Entered.{IsAsOpened}
 use Rattle.disk_ring.specs.Receiver.{Receiver}
 use Rattle.piece_item.specs.declared.item.Item.{Item}
 use Rattle.process_cycle.specs.Ends.{AreOtherEnds}
-use Rattle.butler.specs.Serving.{IsServing}
-use Rattle.butler.specs.declared.turning.Turn.{Turn}
-use Rattle.butler.specs.declared.turning.Turn.TheVariants.{Moved, Idle}
-use Rattle.butler.specs.declared.faults.ButlerFault.{ButlerFault}
-use Rattle.butler.specs.Turns.{total_sent}
+use Rattle.plain_butler.specs.Serving.{IsServing}
+use Rattle.plain_butler.specs.declared.turning.Turn.{Turn}
+use Rattle.plain_butler.specs.declared.turning.Turn.TheVariants.{Moved, Idle}
+use Rattle.plain_butler.specs.declared.faults.ButlerFault.{ButlerFault}
+use Rattle.plain_butler.specs.Turns.{total_sent}
 use Rattle.engine_core.specs.declared.closing.Closing.{Closing}
 use Rattle.engine_core.specs.Begun.{Begun}
 use Rattle.engine_core.specs.RunInvariant.{SendsBy}

@@ -10,7 +10,7 @@ use Rattle.engine_model.specs.Truth.{IsTruthful}
 use Rattle.disk_ring.specs.Rings.{Whole}
 use Rattle.piece_item.specs.Views.{item_of}
 use Rattle.process_cycle.specs.declared.finished.TrackRings.{TrackRings}
-use Rattle.butler.specs.Sends.{kinds}
+use Rattle.plain_butler.specs.Sends.{kinds}
 
 -- the rings of track t
 pub record IsPassedOn (s : Session) (edits : List Edit) (t : ℕ) (journal : List Entry) (r : TrackRings) : Type 0 where

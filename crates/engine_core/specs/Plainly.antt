@@ -16,10 +16,10 @@ use Rattle.piece_item.specs.declared.item.Item.{Item}
 use Rattle.process_cycle.specs.declared.cycling.CycleFault.{CycleFault}
 use Rattle.process_cycle.specs.SpareBoxes.{received_kinds}
 use Rattle.process_cycle.specs.ProcessState.{entries_of}
-use Rattle.butler.specs.declared.turning.Turn.{Turn}
-use Rattle.butler.specs.declared.turning.Turn.TheVariants.{Idle}
-use Rattle.butler.specs.declared.faults.ButlerFault.{ButlerFault}
-use Rattle.butler.specs.Sends.{kinds, acks_of}
+use Rattle.plain_butler.specs.declared.turning.Turn.{Turn}
+use Rattle.plain_butler.specs.declared.turning.Turn.TheVariants.{Idle}
+use Rattle.plain_butler.specs.declared.faults.ButlerFault.{ButlerFault}
+use Rattle.plain_butler.specs.Sends.{kinds, acks_of}
 use Rattle.engine_core.specs.declared.engine.Core.{Core}
 use Rattle.engine_core.specs.Running.{Runs}
 

@@ -5,8 +5,8 @@ use Rattle.ses_io.specs.Streams.{AppendsSome}
 use Rattle.audio_source.specs.Told.{source_sound}
 use Rattle.edition_log.specs.EditionState.{EditionState as Edition}
 use Rattle.process_cycle.specs.declared.finished.Faults.{Faults}
-use Rattle.butler.specs.ButlerState.{ButlerState as Butler}
-use Rattle.butler.specs.Serving.{AreGenuine}
+use Rattle.plain_butler.specs.ButlerState.{ButlerState as Butler}
+use Rattle.plain_butler.specs.Serving.{AreGenuine}
 use Rattle.engine_core.specs.declared.engine.Core.{Core}
 use Rattle.engine_core.specs.declared.serial.Run.{Run}
 use Rattle.engine_core.specs.Begun.{Begun}

@@ -18,8 +18,8 @@ use Rattle.process_cycle.specs.Ends.{AreOtherEnds}
 use Rattle.process_cycle.specs.Cycles.{AllLooked}
 use Rattle.process_cycle.specs.Playing.{IsPlaying, position_of}
 use Rattle.process_cycle.specs.ProcessState.{ProcessState as Process, entries_of}
-use Rattle.butler.specs.Sends.{kinds}
-use Rattle.butler.specs.Serving.{IsServing}
+use Rattle.plain_butler.specs.Sends.{kinds}
+use Rattle.plain_butler.specs.Serving.{IsServing}
 use Rattle.engine_core.specs.declared.engine.Core.{Core}
 
 -- of each track what was received, the newest first

@@ -4,7 +4,7 @@ use Rattle.ses_io.specs.Faults.{HasCause, risen}
 use Rattle.ses_io.specs.Outside.{MediaOutside, OnlyReads}
 use Rattle.disk_ring.specs.Sender.{Sender}
 use Rattle.piece_item.specs.declared.item.Item.{Item}
-use Rattle.butler.specs.ButlerState.{ButlerState as Butler}
+use Rattle.plain_butler.specs.ButlerState.{ButlerState as Butler}
 use Rattle.engine_core.specs.declared.engine.Core.{Core}
 
 -- no ring of items is closed

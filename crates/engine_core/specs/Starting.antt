@@ -13,7 +13,7 @@ use Rattle.disk_ring.specs.Sender.{Sender}
 use Rattle.piece_item.specs.declared.item.Item.{Item}
 use Rattle.process_cycle.specs.declared.finished.Faults.{Faults}
 use Rattle.process_cycle.specs.Made.{HasBegun}
-use Rattle.butler.specs.Serving.{IsGiven, IsServing}
+use Rattle.plain_butler.specs.Serving.{IsGiven, IsServing}
 use Rattle.engine_core.specs.declared.serial.Run.{Run}
 use Rattle.engine_core.specs.declared.starting.Started.{Started}
 use Rattle.engine_core.specs.declared.lists.RunLists.{RunLists}

@@ -7,10 +7,10 @@ use Rattle.process_cycle.specs.Ends.{EndsMeet}
 use Rattle.process_cycle.specs.Answers.{Keeps, LookAnswers, LooksAtAll}
 use Rattle.process_cycle.specs.declared.cycling.CycleFault.{CycleFault}
 use Rattle.process_cycle.specs.Made.{Cycles}
-use Rattle.butler.specs.declared.turning.Turn.{Turn}
-use Rattle.butler.specs.declared.faults.ButlerFault.{ButlerFault}
-use Rattle.butler.specs.Table.{TakesAll}
-use Rattle.butler.specs.Turns.{AllSend, Answers, Fails, KeepsRest}
+use Rattle.plain_butler.specs.declared.turning.Turn.{Turn}
+use Rattle.plain_butler.specs.declared.faults.ButlerFault.{ButlerFault}
+use Rattle.plain_butler.specs.Table.{TakesAll}
+use Rattle.plain_butler.specs.Turns.{AllSend, Answers, Fails, KeepsRest}
 use Rattle.engine_core.specs.declared.engine.Core.{Core}
 use Rattle.engine_core.specs.Running.{HasMet}
 

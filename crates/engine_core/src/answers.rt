@@ -2,7 +2,7 @@
 ghost use Rattle.std.specs.Prelude.{◌≡◌, true, if◌then◌else◌, is_err};
 ghost use Rattle.engine_core.specs.Answers.{is_idle, with_fault};
 
-use butler::{ButlerFault, Turn};
+use plain_butler::{ButlerFault, Turn};
 
 /// Whether a turn was Idle.
 pub(crate) fn is_idle(answer: Result<Turn, ButlerFault>) -> bool

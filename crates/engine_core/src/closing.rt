@@ -4,8 +4,8 @@ ghost use Rattle.engine_core.specs.Serial.{CountsReads, StayOpen};
 ghost use Rattle.engine_core.specs.Ending.{IsClosing, LastTurnsKeep, SendsMore};
 
 use crate::answers::{is_idle, with_fault};
-use butler::{Butler, ButlerFault, Turn};
 use edition_log::Edition;
+use plain_butler::{Butler, ButlerFault, Turn};
 use process_cycle::{ProcessEnds, meet_ends};
 use ses_io::Media;
 

@@ -9,11 +9,11 @@ ghost use Rattle.engine_core.specs.Steps.{Meets, Turns, LooksAround, PlaysOn};
 ghost use Rattle.engine_core.specs.Serial.{CountsReads};
 ghost use Rattle.engine_core.specs.Written.{WritesACycle};
 
-use butler::{Butler, ButlerFault, Turn};
 use disk_ring::RingOut;
 use edition_log::Edition;
 use engine_laws::genuine_pieces_make_the_block;
 use piece_item::Ack;
+use plain_butler::{Butler, ButlerFault, Turn};
 use process_cycle::{CycleFault, Look, Process};
 use ses_io::{Media, Sink};
 

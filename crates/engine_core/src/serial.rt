@@ -7,7 +7,7 @@ ghost use Rattle.engine_core.specs.RunInvariant.{HasRoomFor, IsRunning, IsPerfor
 
 use crate::answers::{failed, is_idle, with_fault};
 use crate::engine::Core;
-use butler::ButlerFault;
+use plain_butler::ButlerFault;
 use process_cycle::Faults;
 use ses_io::{Media, Sink};
 

@@ -5,10 +5,10 @@ ghost use Rattle.engine_core.specs.Starting.{AreNewRunEnds, HasWorkers, MayStart
 
 use crate::run_ends::RunEnds;
 use audio_source::Sources;
-use butler::Butler;
 use disk_ring::RingOut;
 use edition_log::Edition;
 use piece_item::Ack;
+use plain_butler::Butler;
 use process_cycle::{Process, ProcessParts};
 use ses_io::{Media, Sink};
 use std::alloc::Global;

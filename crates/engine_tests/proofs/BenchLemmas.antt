@@ -1,4 +1,4 @@
--- Rings of a bench are new, what workers may begin with, and how they go on.
+-- Rings of a bench are new, what a process may begin with, and how it goes on.
 use Rattle.std.proofs.Common.{◌≡◌, ℕ, ◌*◌, ◌<◌, ◌≤◌, List, [], ◌∷◌, ◌++◌, Box, length, refl, sym, ap, ◌∙◌, subst, true, false, slice_index_or, arith}
 use Rattle.std.specs.Prelude.{Bool, All, take, drop}
 use Rattle.std.specs.Global.{Global}
@@ -15,24 +15,17 @@ use Rattle.session_model.specs.declared.edit.Edit.{Edit}
 use Rattle.session_model.specs.Formed.{channels_at}
 use Rattle.session_model.specs.Valid.{IsValid}
 use Rattle.engine_model.specs.PlainSession.{is_plain}
+use Rattle.engine_laws.proofs.PlainSessionLemmas.{mono_at}
 use Rattle.piece_item.specs.declared.item.Item.{Item}
-use Rattle.piece_item.specs.declared.ack.Ack.{Ack}
-use Rattle.piece_item.specs.declared.butler_ends.ButlerEnds.{ButlerEnds}
 use Rattle.edition_log.specs.EditionState.{EditionState as Edition}
 use Rattle.edition_log.specs.Entered.{Entered, IsAsOpened}
 use Rattle.edition_log.proofs.AsOpenedLemmas.{as_opened_first}
-use Rattle.butler.specs.ButlerState.{ButlerState}
-use Rattle.butler.specs.Serving.{IsNewSender, IsServing, MayBegin}
-use Rattle.butler.specs.Turns.{Enters}
-use Rattle.butler.proofs.KeepLemmas.{one_channel, session_is}
-use Rattle.session_opening.specs.declared.loading.Loaded.{Loaded}
-use Rattle.session_opening.specs.Answers.{IsLoaded}
 use Rattle.process_cycle.specs.declared.ends.ProcessEnds.{ProcessEnds}
 use Rattle.process_cycle.specs.Answers.{MayLook}
 use Rattle.process_cycle.specs.Ends.{AreNew, IsNewIn, IsNewOut, block_of}
 use Rattle.process_cycle.specs.Playing.{IsPlaying}
 use Rattle.process_cycle.specs.ProcessState.{ProcessState}
-use Rattle.engine_tests.specs.Bench.{entered_by, IsPair, IsOpening, AreNewEnds, AreTwoEnds, AreTwoRings, IsServed, IsPlayed}
+use Rattle.engine_tests.specs.Bench.{entered_by, IsPair, IsOpening, AreTwoEnds, AreTwoRings, IsPlayed}
 
 -- ---- rings
 
@@ -62,73 +55,15 @@ few_still n xs ys few more = omega (arith, few, ap length more.1, length-append 
 all_taken : (n : ℕ) (xs : List Edit) → n ≡ length xs → take n xs ≡ xs
 all_taken n xs all = ap (λ k. take k xs) all ∙ take-length xs
 
--- ---- a butler
+-- ---- an edition of the session that was opened
 
-once : (n : ℕ) → n ≡ n * 1
-once n = omega arith
-
-new_sender : (depth room : ℕ) (d : Sender Item) → IsNewIn depth room d → IsNewSender depth room d
-new_sender depth room d new = record { deep = new.depth; wide = new.room; nothing_sent = new.sent; not_closed = new.closed }
-
-pub may_begin : (o : Loaded) (cycles : ℕ) (ends : ButlerEnds) → IsLoaded o → 0 < cycles → cycles ≤ 100000 → length o.edition.session.tracks.items ≡ 3 →
-    AreNewEnds o.edition.session.depth o.edition.session.block ends → MayBegin o.edition.session o.edition o.sources.opened cycles ends
-may_begin o cycles ends loaded some near three new = let s = o.edition.session in let many = new.three in record {
-  plain = loaded.plain;
-  edition_of = as_opened_first o.edition.session o.edition loaded.edition loaded.edits;
-  sources_of = loaded.listed;
-  some_cycle = omega arith;
-  near = near;
-  tracks = new.three ∙ sym three;
-  each = λ t d hd. let within : t < length ends.sends.items = slice_get_within ends.sends.items t d hd in let low : t < length s.tracks.items = omega arith in
-      subst (λ n. IsNewSender s.depth n d) (once s.block ∙ ap (λ n. s.block * n) (sym (one_channel s t loaded.plain loaded.valid low)))
-      (new_sender s.depth s.block d (subst (IsNewIn s.depth s.block) (get_or_from_slice_get ends.sends.items t d d hd) (new.sends t d within)));
-  acks_room = new.acks_room;
-  none_received = new.none_received;
-  not_ended = new.not_ended;
-}
-
--- a new butler entered no edit
-pub served_first : {V : Type 0} (o : Loaded) (b : ButlerState V) (block : ℕ) (plays : List (Receiver Item)) (acks : Sender Ack) → IsLoaded o → IsServing o.edition.session o.edition.edits b → block ≡ o.edition.session.block →
-    All (λ r. r.room ≡ o.edition.session.block) plays → IsNewIn 2 0 acks → IsServed b o.edition 0 block plays acks
-served_first o b block plays acks loaded serving wide rooms new = record {
-  few = omega arith;
-  serving = subst (λ xs. IsServing o.edition.session xs b) (loaded.edits) serving;
-  edition_of = as_opened_first o.edition.session o.edition loaded.edition loaded.edits;
-  rooms = subst (λ n. All (λ r. r.room ≡ n) plays) (sym wide) rooms;
-  acks_room = new.room;
-  acks_open = new.closed;
-}
-
-module _ {V : Type 0} (b : ButlerState V) (e : Edition) (n block : ℕ) (plays : List (Receiver Item)) (acks : Sender Ack) (is : IsServed b e n block plays acks) where
-  pub enters : (at : Entered) → entered_by e n ≡ at → Enters at b e
-  enters at same = subst (λ (x : Entered). Enters x b e) same record { serving = is.serving; edition_of = is.edition_of; grows = front n e.edits }
-
-  -- after a turn it entered all
-  pub served_now : (at : Entered) → entered_by e n ≡ at → (b' : ButlerState V) → IsServing at.session e.edits b' → (many : ℕ) → many ≡ length e.edits → IsServed b' e many block plays acks
-  served_now at same b' serving many all = record {
-    few = omega (arith, all);
-    serving = subst (λ xs. IsServing e.session xs b') (sym (all_taken many e.edits all)) (subst (λ (x : Entered). IsServing x.session e.edits b') (sym same) serving);
-    edition_of = is.edition_of;
-    rooms = is.rooms;
-    acks_room = is.acks_room;
-    acks_open = is.acks_open;
-  }
-
-  -- the edition goes on
-  pub served_still : (e' : Edition) → IsAsOpened e.session e' → IsPrefix e.edits e'.edits → IsServed b e' n block plays acks
-  served_still e' edition more = let session = session_is e.session e' edition in record {
-    few = few_still n e.edits e'.edits is.few more;
-    serving = subst (λ s. IsServing s (take n e'.edits) b) (sym session) (subst (λ xs. IsServing e.session xs b) (sym (front_stays n e.edits e'.edits is.few more)) is.serving);
-    edition_of = subst (λ s. IsAsOpened s e') (sym session) edition;
-    rooms = is.rooms;
-    acks_room = is.acks_room;
-    acks_open = is.acks_open;
-  }
+session_is : (s : Session) (e : Edition) → IsAsOpened s e → e.session ≡ s
+session_is s e is = ap (λ x. x.session) is.edition_of.state ∙ is.stands (length e.edits)
 
 -- ---- a process
 
 one_sample : (s : Session) → IsPair s → IsValid s → is_plain s ≡ true → (t : ℕ) → t < length s.tracks.items → block_of s t ≡ 1
-one_sample s pair valid plain t within = ap (λ n. n * channels_at s t) pair.block ∙ ap (λ n. 1 * n) (one_channel s t plain valid within)
+one_sample s pair valid plain t within = ap (λ n. n * channels_at s t) pair.block ∙ ap (λ n. 1 * n) (mono_at s t plain (omega (arith, within, valid.formed.limits.master)))
 
 pub are_new : (s : Session) (ends : ProcessEnds) → IsPair s → IsValid s → is_plain s ≡ true → AreTwoEnds ends → AreNew s ends
 are_new s ends pair valid plain two = let many = two.two in let takes_many = two.takes_two in let tracks = pair.tracks in record {

@@ -1,2 +1,2 @@
--- Why the workers on a bench may begin and go on.
+-- Why a process on a bench may begin and go on.
 mod BenchLemmas

@@ -1,18 +1,12 @@
--- Workers on a bench, as tests have them: what is so of their sessions and their rings, of a butler of three tracks and of a
--- process of two.
+-- A worker on a bench, as tests have it: what is so of its session and its rings, and of a process of two tracks.
 use Rattle.std.specs.Prelude.{◌≡◌, ℕ, ◌≤◌, Bool, true, false, List, [], length, take, All}
 use Rattle.disk_ring.specs.Sender.{Sender}
-use Rattle.disk_ring.specs.Receiver.{Receiver}
 use Rattle.session_model.specs.declared.session.Session.{Session}
 use Rattle.session_model.specs.Valid.{IsValid}
 use Rattle.engine_model.specs.PlainSession.{is_plain}
 use Rattle.piece_item.specs.declared.item.Item.{Item}
-use Rattle.piece_item.specs.declared.ack.Ack.{Ack}
-use Rattle.piece_item.specs.declared.butler_ends.ButlerEnds.{ButlerEnds}
 use Rattle.edition_log.specs.EditionState.{EditionState as Edition, IsEditionOf}
 use Rattle.edition_log.specs.Entered.{Entered, IsAsOpened}
-use Rattle.butler.specs.ButlerState.{ButlerState}
-use Rattle.butler.specs.Serving.{IsServing}
 use Rattle.process_cycle.specs.declared.ends.ProcessEnds.{ProcessEnds}
 use Rattle.process_cycle.specs.Ends.{IsNewIn, IsNewOut}
 use Rattle.process_cycle.specs.Playing.{IsPlaying}
@@ -37,14 +31,6 @@ pub record IsPair (s : Session) : Type 0 where
 
 -- ---- rings
 
--- the ends of new rings for three tracks
-pub record AreNewEnds (depth block : ℕ) (ends : ButlerEnds) : Type 0 where
-  pub three : length ends.sends.items ≡ 3
-  pub sends : All (IsNewIn depth block) ends.sends.items
-  pub acks_room : ends.acks.room ≡ 0
-  pub none_received : ends.acks.received ≡ []
-  pub not_ended : ends.acks.ended ≡ false
-
 -- the ends of new rings for two tracks
 pub record AreTwoEnds (ends : ProcessEnds) : Type 0 where
   pub two : length ends.plays.items ≡ 2
@@ -60,16 +46,7 @@ pub record AreTwoRings (one other : Sender Item) (process : ProcessEnds) : Type 
   pub second : IsNewIn 2 1 other
   pub ends : AreTwoEnds process
 
--- ---- workers
-
--- the butler entered the first so many edits, may enter the edition, and the ends fit boxes of one block
-pub record IsServed {V : Type 0} (b : ButlerState V) (e : Edition) (entered block : ℕ) (plays : List (Receiver Item)) (acks : Sender Ack) : Type 0 where
-  pub few : entered ≤ length e.edits
-  pub serving : IsServing e.session (take entered e.edits) b
-  pub edition_of : IsAsOpened e.session e
-  pub rooms : All (λ r. r.room ≡ block) plays
-  pub acks_room : acks.room ≡ 0
-  pub acks_open : acks.closed ≡ false
+-- ---- a process
 
 -- the process plays the session by the first so many edits, and these ends send it items
 pub record IsPlayed {W : Type 0} (p : ProcessState W) (e : Edition) (entered : ℕ) (first second : Sender Item) (over : Bool) : Type 0 where

@@ -1,2 +1,2 @@
--- What is so of the workers on a bench.
+-- What is so of a process on a bench.
 pub mod Bench

@@ -1,5 +1,5 @@
 //! What several subjects stand on: media in memory, sessions that open, and edits that may follow.
-ghost use Rattle.std.specs.Prelude.{◌≡◌, ◌<◌, length, IfSome};
+ghost use Rattle.std.specs.Prelude.{◌≡◌, length, IfSome};
 ghost use mathlib.Core.List.{IsPrefix};
 ghost use Rattle.session_model.specs.declared.session.Session.{Session as Opening};
 ghost use Rattle.edition_log.specs.Entered.{IsAsOpened};
@@ -72,17 +72,16 @@ pub(crate) fn row_holds<R: Abort>(rt: &R, at: usize, right: bool) {
     assert!(rt; right, "row {at}");
 }
 
-/// What the session `s.toml` opens to, where it has so many tracks.
-pub(crate) fn loaded(alloc: Global, media: &mut MemMedia, tracks: usize) -> Option<Loaded>
+// What the session `s.toml` opens to, where it has so many tracks.
+fn loaded(alloc: Global, media: &mut MemMedia, tracks: usize) -> Option<Loaded>
     ensures loaded { IfSome result IsLoaded }
     ensures tracks { IfSome result (λ o. length o.edition.session.tracks.items ≡ tracks) }
-    ensures depth { IfSome result (λ o. 0 < o.edition.session.depth) }
 {
     let Ok(loaded) = open(alloc, media, &EXPORT) else {
         return None;
     };
     let session = loaded.edition.session();
-    if session.tracks.len() != tracks || session.depth == 0 {
+    if session.tracks.len() != tracks {
         return None;
     }
     Some(loaded)

@@ -1,10 +1,8 @@
-//! Values from outside, worked out beside the code: for editions and journals, the workers and whole runs.
+//! Values from outside, worked out beside the code: for editions and journals, the process and whole runs.
 #![tactic(auto)]
 
 #[cfg(test)]
 mod bench;
-#[cfg(test)]
-mod butler_turns;
 #[cfg(test)]
 mod editions;
 #[cfg(test)]

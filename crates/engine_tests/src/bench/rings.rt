@@ -1,10 +1,10 @@
 //! New rings, and their ends as the workers take them.
 ghost use Rattle.std.specs.Prelude.{◌≡◌, ◌<◌, length, All, IfOk};
 ghost use Rattle.process_cycle.specs.Ends.{IsNewIn, IsNewOut};
-ghost use Rattle.engine_tests.specs.Bench.{AreNewEnds, AreTwoEnds};
+ghost use Rattle.engine_tests.specs.Bench.{AreTwoEnds};
 
 use disk_ring::{RingIn, RingInList, RingOut, RingOutList, Roomy, ring};
-use piece_item::{Ack, ButlerEnds, Item, TakeBlock};
+use piece_item::{Ack, Item, TakeBlock};
 use process_cycle::ProcessEnds;
 use ses_io::NoMemory;
 use std::alloc::Global;
@@ -21,8 +21,8 @@ fn blanks(alloc: Global, many: u32, block: u32) -> Result<Vec<Box<Item>>, NoMemo
     Ok(blanks)
 }
 
-/// A ring of this depth for blocks of one channel.
-pub(crate) fn item_ring(
+// A ring of this depth for blocks of one channel.
+fn item_ring(
     alloc: Global,
     depth: u32,
     block: u32,
@@ -33,27 +33,6 @@ pub(crate) fn item_ring(
 {
     let (to, from) = ring(alloc, depth, blanks(alloc, depth, block)?)?;
     Ok((to, from))
-}
-
-// The ends of new rings for three tracks.
-fn item_rings(
-    alloc: Global,
-    depth: u32,
-    block: u32,
-) -> Result<(RingInList<Item>, Vec<RingOut<Item>>), NoMemory>
-    requires { 0 < depth }
-    ensures many { IfOk result (λ r. length r.0.items ≡ 3) }
-    ensures to { IfOk result (λ r. All (IsNewIn depth block) r.0.items) }
-    ensures from { IfOk result (λ r. All (λ end. end.room ≡ block) r.1.items) }
-{
-    let mut sends = RingInList::new(alloc, 3)?;
-    let mut plays = Vec::new(alloc);
-    for track in 0..3_u32 {
-        let (to, from) = item_ring(alloc, depth, block)?;
-        sends.push(to);
-        plays.push(from)?;
-    }
-    Ok((sends, plays))
 }
 
 // A ring of these two boxes.
@@ -79,34 +58,6 @@ fn ack_ring(alloc: Global) -> Result<(RingIn<Ack>, RingOut<Ack>), NoMemory>
     ensures from { IfOk result (λ r. IsNewOut 2 0 r.1) }
 {
     small_ring(alloc, Ack::blank(alloc)?, Ack::blank(alloc)?)
-}
-
-/// New rings for a butler of three tracks: its ends, and the other ends of its items and its acknowledgements.
-#[derive(Drop)]
-pub(crate) struct ThreeRings {
-    pub(crate) ends: ButlerEnds,
-    pub(crate) plays: Vec<RingOut<Item>>,
-    pub(crate) acks: RingIn<Ack>,
-}
-
-pub(crate) fn three_rings(alloc: Global, depth: u32, block: u32) -> Result<ThreeRings, NoMemory>
-    requires { 0 < depth }
-    ensures ends { IfOk result (λ r. AreNewEnds depth block r.ends) }
-    ensures plays { IfOk result (λ r. All (λ end. end.room ≡ block) r.plays.items) }
-    ensures acks { IfOk result (λ r. IsNewIn 2 0 r.acks) }
-{
-    let (acks, told) = ack_ring(alloc)?;
-    let takes = RingOutList::new(alloc, 0)?;
-    let (sends, plays) = item_rings(alloc, depth, block)?;
-    Ok(ThreeRings {
-        ends: ButlerEnds {
-            sends,
-            takes,
-            acks: told,
-        },
-        plays,
-        acks,
-    })
 }
 
 // The end of a ring of blocks of one sample.

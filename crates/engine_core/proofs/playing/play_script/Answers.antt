@@ -1,7 +1,7 @@
 use Rattle.std.proofs.Common.{length, sym, ap, ◌∙◌, arith}
 use Rattle.session_model.specs.declared.session.Session.{Session}
 use Rattle.engine_core.specs.declared.lists.RunLists.{RunLists}
-use Rattle.butler.proofs.KeepLemmas.{session_is}
+use Rattle.plain_butler.proofs.KeepLemmas.{session_is}
 use Rattle.engine_core.proofs.PlayLemmas as play
 use Rattle.engine_core.proofs.playing.play_script.Goals as goal
 

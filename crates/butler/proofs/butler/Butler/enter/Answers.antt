@@ -1,21 +1,15 @@
 use Rattle.std.proofs.Common.{List, ◌∙◌, sym, subst}
-use Rattle.butler.specs.declared.supply.TrackSupply.{TrackSupply}
+use Rattle.read_ahead.specs.declared.supply.TrackSupply.{TrackSupply}
 use Rattle.butler.specs.Serving.{AreStocked}
 use Rattle.butler.proofs.StockLemmas.{rewritten, entered_stocked}
 use Rattle.butler.proofs.butler.Butler.enter.Goals as goal
 
 pub invariant_of-self : goal.invariant_of-self
-invariant_of-self g c = let sends = c.self.inside.ends.sends.items in
-    let written = rewritten c.self.inside.holds.supplies.len c.enter_all.new.supplies c.self.inside.holds.supplies.items (c.enter_all.auto.supplies ∙ c.deref_mut.ensures.len) in (
-      subst (λ (qs : List TrackSupply). AreStocked qs sends) (sym written)
-          (entered_stocked c.args.e.now _ _ sends (subst (λ (ps : List TrackSupply). AreStocked ps sends) (sym c.deref_mut.ensures.value) c.self.invariant.0) c.enter_all.ensures.entered),
+invariant_of-self g c = let holds = c.self.inside.holds in let ends = c.self.inside.ends in
+    let written = rewritten holds.supplies.len c.enter_all.new.supplies holds.supplies.items (c.enter_all.auto.supplies ∙ c.deref_mut.ensures.len) in (
+      subst (λ (qs : List TrackSupply). AreStocked qs holds.drain ends) (sym written)
+          (entered_stocked c.args.e.now _ _ holds.drain ends (subst (λ (ps : List TrackSupply). AreStocked ps holds.drain ends) (sym c.deref_mut.ensures.value) c.self.invariant.0) c.enter_all.ensures.entered),
       c.self.invariant.1,
       c.self.invariant.2,
       c.self.invariant.3,
     )
-
-pub returns-clause-stocked : goal.returns-clause-stocked
-returns-clause-stocked g c = let sends = c.self.inside.ends.sends.items in
-    let written = rewritten c.self.inside.holds.supplies.len c.enter_all.new.supplies c.self.inside.holds.supplies.items (c.enter_all.auto.supplies ∙ c.deref_mut.ensures.len) in
-    subst (λ (qs : List TrackSupply). AreStocked qs sends) (sym written)
-    (entered_stocked c.args.e.now _ _ sends (subst (λ (ps : List TrackSupply). AreStocked ps sends) (sym c.deref_mut.ensures.value) c.self.invariant.0) c.enter_all.ensures.entered)

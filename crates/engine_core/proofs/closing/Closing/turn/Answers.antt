@@ -1,7 +1,7 @@
 use Rattle.std.proofs.Common.{◌≡◌, refl, sym, ap, subst, ◌∙◌, arith}
 use Rattle.process_cycle.specs.Ends.{EndsMeet}
-use Rattle.butler.specs.ButlerState.{ButlerState as Butler, resumed}
-use Rattle.butler.specs.Serving.{AreStocked, IsServing}
+use Rattle.plain_butler.specs.ButlerState.{ButlerState as Butler, resumed}
+use Rattle.plain_butler.specs.Serving.{AreStocked, IsServing}
 use Rattle.engine_core.specs.RunInvariant.{SendsBy}
 use Rattle.engine_core.proofs.ClosingLemmas as closing
 use Rattle.engine_core.proofs.RunningLemmas as running

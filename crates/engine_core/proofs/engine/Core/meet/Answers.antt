@@ -1,9 +1,9 @@
 use Rattle.std.proofs.Common.{◌≡◌, sym, ap, subst, ◌∙◌}
 use Rattle.process_cycle.specs.Ends.{EndsMeet}
 use Rattle.process_cycle.specs.Playing.{IsPlaying}
-use Rattle.butler.specs.ButlerState.{rested, resumed}
-use Rattle.butler.specs.Serving.{AreStocked}
-use Rattle.butler.proofs.MeetingLemmas.{meeting_keeps}
+use Rattle.plain_butler.specs.ButlerState.{rested, resumed}
+use Rattle.plain_butler.specs.Serving.{AreStocked}
+use Rattle.plain_butler.proofs.MeetingLemmas.{meeting_keeps}
 use Rattle.engine_core.specs.Running.{HasMet, HasLookedAround}
 use Rattle.engine_core.specs.RunInvariant.{IsRunning}
 use Rattle.engine_core.specs.Plainly.{AreReady}

@@ -1,0 +1,171 @@
+-- What a turn leaves of the media, and what its faults leave, for each way that it ends.
+use Rattle.std.proofs.Common.{◌≡◌, ℕ, length, refl, sym, ap, ◌∙◌, subst, true, false, true≢false}
+use Rattle.std.specs.Prelude.{Bool, Result, Ok, Err, is_err}
+use Rattle.ses_io.specs.Files.{Files}
+use Rattle.ses_io.specs.Outside.{MediaOutside, OnlyReads}
+use Rattle.edition_log.specs.EditionState.{EditionState as Edition}
+use Rattle.audio_source.specs.Lines.{SourcesState}
+use Rattle.audio_source.specs.declared.refusal.ReadFault.{ReadFault as ReadFailed}
+use Rattle.capture_flush.specs.declared.fault.WriteFault.{WriteFault as WriteFailed}
+use Rattle.capture_flush.specs.Flushed.{IsFlushed}
+use Rattle.read_ahead.specs.Pass.{PassState}
+use Rattle.read_ahead.specs.AllServes.{AllAtHand, total_sent}
+use Rattle.capture_drain.specs.Drains.{total_received}
+use Rattle.capture_drain.specs.Files.{tape_of}
+use Rattle.butler.specs.declared.turning.Turn.{Turn}
+use Rattle.butler.specs.declared.faults.ButlerFault.{ButlerFault}
+use Rattle.butler.specs.declared.faults.ButlerFault.TheVariants.{ReadFault, WriteFault}
+use Rattle.butler.specs.ButlerState.{ButlerState, Served, start_of}
+use Rattle.butler.specs.Turns.{Receives, TakesAreKept, pass_of}
+use Rattle.butler.specs.Faults.{Fails, KeepsRest, HasRisen}
+use Rattle.butler.specs.Steps.{Accepts, EntersIn, Flushes, SendsOn}
+use Rattle.butler.proofs.FlushedLemmas as flushed
+use Rattle.butler.proofs.FlushedLemmas.{err_is_ok}
+
+-- ---- a write failed: the turn ends before anything is sent
+
+module _ {V : Type 0} (outside : MediaOutside V) (at : Served) (e : Edition) (most : ℕ) (b c d f : ButlerState V) (accepts : Accepts b c) (enters : EntersIn e c d) (fault : WriteFailed)
+    (flushes : Flushes outside (start_of at) most d (Err fault) f) where
+  abbrev cut : Result Turn ButlerFault
+  cut = Err WriteFault
+
+  had_not : (failed : Bool) → b.write_failed ≡ failed → (b.write_failed ≡ false) × (f.write_failed ≡ true)
+  had_not true was = err_is_ok ((b.write_failed ≡ false) × (f.write_failed ≡ true)) (Err fault) 0 refl
+      (flushes.quiet (flushed.writes_before outside at e most b c d f accepts enters (Err fault) flushes ∙ was)).1
+  had_not false was = (was, (flushes.busy (flushed.writes_before outside at e most b c d f accepts enters (Err fault) flushes ∙ was)).0)
+
+  pub cut_takes : outside.tells → TakesAreKept at (outside.files b.media) (outside.files f.media) b cut f
+  cut_takes told was = flushed.given outside at e most b c d f accepts enters (Err fault) flushes told was
+
+  pub cut_fails : Fails outside b cut f
+  cut_fails = let before = flushed.media_before outside at e most b c d f accepts enters (Err fault) flushes in let cause = flushes.media.cause in let not = had_not b.write_failed refl in record {
+    read_failed = flushed.reads_after outside at e most b c d f accepts enters (Err fault) flushes;
+    write_failed = not.1;
+    reads = flushed.read_faults outside at e most b c d f accepts enters (Err fault) flushes;
+    writes = subst (λ (m : V). HasRisen (outside.write_faults m) (outside.write_faults f.media)) before (record { later = cause.later; rose = cause.rose });
+    no_more_sent = λ was. flushed.sends_after outside at e most b c d f accepts enters (Err fault) flushes;
+    no_more_flushed = λ was. absurd (true≢false (sym was ∙ not.0));
+    read_once = λ was. (refl, flushed.sources_after outside at e most b c d f accepts enters (Err fault) flushes, flushed.media_stands outside at e most b c d f accepts enters (Err fault) flushes);
+    write_once = λ was. absurd (true≢false (sym was ∙ not.0));
+  }
+
+  pub cut_rest : KeepsRest outside at.session e b f
+  cut_rest = record {
+    sources = ap (λ (s : SourcesState). s.opened) (flushed.sources_after outside at e most b c d f accepts enters (Err fault) flushes);
+    cycles = flushed.cycles_after outside at e most b c d f accepts enters (Err fault) flushes;
+    others = flushed.others_stand outside at e most b c d f accepts enters (Err fault) flushes;
+    same = λ none. let stands = flushed.media_stands outside at e most b c d f accepts enters (Err fault) flushes none in record { files = ap outside.files stands; other_count = ap outside.write_faults stands };
+    quiet = λ again ahead none. (flushed.sources_after outside at e most b c d f accepts enters (Err fault) flushes, flushed.media_stands outside at e most b c d f accepts enters (Err fault) flushes);
+  }
+
+-- ---- so many blocks were flushed, and then items were sent
+
+module _ {V : Type 0} (outside : MediaOutside V) (at : Served) (e : Edition) (most n limit : ℕ) (b c d f g : ButlerState V) (accepts : Accepts b c) (enters : EntersIn e c d)
+    (flushes : Flushes outside (start_of at) most d (Ok n) f) (result : Result ℕ ReadFailed) (sends : SendsOn outside e limit f result g) where
+  takes_as : g.ends.takes ≡ f.ends.takes
+  takes_as = ap (λ z. z.ends.takes) sends.same
+
+  drain_as : g.drain ≡ f.drain
+  drain_as = ap (λ z. z.drain) sends.same
+
+  writes_as : g.write_failed ≡ b.write_failed
+  writes_as = ap (λ z. z.write_failed) sends.same ∙ (flushed.counted outside at e most n b c d f accepts enters flushes).2
+
+  before : f.read_failed ≡ b.read_failed
+  before = flushed.reads_after outside at e most b c d f accepts enters (Ok n) flushes
+
+  pub receives : Receives b g
+  receives = let had = flushed.received outside at e most b c d f accepts enters (Ok n) flushes in
+      subst (λ (z : ButlerState V). Receives b z) (sym sends.same) (record { acks = had.acks; takes = had.takes })
+
+  -- the files hold the blocks that were received
+  pub kept : outside.tells → IsFlushed (tape_of (start_of at) b.ends.takes.items) b.drain.files (outside.files b.media) →
+      IsFlushed (tape_of (start_of at) g.ends.takes.items) g.drain.files (outside.files g.media)
+  kept told was = subst (λ (fs : Files). IsFlushed (tape_of (start_of at) g.ends.takes.items) g.drain.files fs) (sym sends.read.only_reads.files)
+      (subst (λ (z : ButlerState V). IsFlushed (tape_of (start_of at) z.ends.takes.items) z.drain.files (outside.files f.media)) (sym sends.same)
+      (flushed.given outside at e most b c d f accepts enters (Ok n) flushes told was))
+
+  no_more_flushed : b.write_failed ≡ true → (g.ends.takes ≡ b.ends.takes) × (g.drain ≡ b.drain)
+  no_more_flushed was = let none = flushed.no_more outside at e most b c d f accepts enters (Ok n) flushes was in (takes_as ∙ none.0, drain_as ∙ none.1)
+
+  no_more_sent : b.read_failed ≡ true → g.ends.sends ≡ b.ends.sends
+  no_more_sent was = ap (λ z. z.ends.sends) (sends.quiet (before ∙ was)).0 ∙ flushed.sends_after outside at e most b c d f accepts enters (Ok n) flushes
+
+  writes_stand : outside.write_faults g.media ≡ outside.write_faults b.media
+  writes_stand = sends.read.only_reads.other_count ∙ flushes.media.cause.kept ∙ ap outside.write_faults (flushed.media_before outside at e most b c d f accepts enters (Ok n) flushes)
+
+  read_failed_by : (failed : Bool) → b.read_failed ≡ failed → (x : ℕ) → result ≡ Ok x → g.read_failed ≡ b.read_failed
+  read_failed_by true was x same = ap (λ z. z.read_failed) (sends.quiet (before ∙ was)).0 ∙ before
+  read_failed_by false was x same = (sends.busy (before ∙ was)).1 ∙ ap is_err same ∙ sym was
+
+  has_failed : (failed : Bool) → b.read_failed ≡ failed → is_err result ≡ true → g.read_failed ≡ true
+  has_failed true was err = err_is_ok (g.read_failed ≡ true) result 0 err (sends.quiet (before ∙ was)).1
+  has_failed false was err = (sends.busy (before ∙ was)).1 ∙ err
+
+  total_as : total_received g.ends.takes.items ≡ total_received f.ends.takes.items
+  total_as = ap (λ z. total_received z.items) takes_as
+
+  only_reads : total_received g.ends.takes.items ≡ total_received b.ends.takes.items → OnlyReads outside b.media g.media
+  only_reads none = let stands = flushed.media_stands outside at e most b c d f accepts enters (Ok n) flushes (sym total_as ∙ none) in
+      record { files = sends.read.only_reads.files ∙ ap outside.files stands; other_count = sends.read.only_reads.other_count ∙ ap outside.write_faults stands }
+
+  pass_as : pass_of e g ≡ pass_of e f
+  pass_as = ap (pass_of e) sends.same
+
+  reads_nothing : b.entered ≡ length e.edits → AllAtHand (pass_of e g) b.supplies → total_sent g.ends.sends.items ≡ total_sent b.ends.sends.items →
+      (g.sources ≡ b.sources) × (total_received g.ends.takes.items ≡ total_received b.ends.takes.items → g.media ≡ b.media)
+  reads_nothing again ahead none =
+      let had : f.supplies ≡ b.supplies = flushed.supplies_after outside at e most b c d f accepts enters (Ok n) flushes ∙ enters.again (ap (λ z. z.entered) accepts.same ∙ again) ∙ ap (λ z. z.supplies) accepts.same in
+      let ready : AllAtHand (pass_of e f) f.supplies = subst (AllAtHand (pass_of e f)) (sym had) (subst (λ (p : PassState). AllAtHand p b.supplies) pass_as ahead) in
+      let nothing = sends.at_hand ready (none ∙ ap (λ z. total_sent z.items) (sym (flushed.sends_after outside at e most b c d f accepts enters (Ok n) flushes))) in (
+        nothing.1 ∙ flushed.sources_after outside at e most b c d f accepts enters (Ok n) flushes,
+        λ flushed_none. nothing.0 ∙ flushed.media_stands outside at e most b c d f accepts enters (Ok n) flushes (sym total_as ∙ flushed_none),
+      )
+
+  read_once : b.read_failed ≡ true → (g.sources ≡ b.sources) × (total_received g.ends.takes.items ≡ total_received b.ends.takes.items → g.media ≡ b.media)
+  read_once was = let quiet = sends.quiet (before ∙ was) in (
+    ap (λ z. z.sources) quiet.0 ∙ flushed.sources_after outside at e most b c d f accepts enters (Ok n) flushes,
+    λ none. ap (λ z. z.media) quiet.0 ∙ flushed.media_stands outside at e most b c d f accepts enters (Ok n) flushes (sym total_as ∙ none),
+  )
+
+  pub rest : KeepsRest outside at.session e b g
+  rest = record {
+    sources = sends.read.opened ∙ ap (λ (s : SourcesState). s.opened) (flushed.sources_after outside at e most b c d f accepts enters (Ok n) flushes);
+    cycles = ap (λ z. z.cycles) sends.same ∙ flushed.cycles_after outside at e most b c d f accepts enters (Ok n) flushes;
+    others = λ told q other. ap (λ (fs : Files). fs q) sends.read.only_reads.files ∙ flushed.others_stand outside at e most b c d f accepts enters (Ok n) flushes told q other;
+    same = only_reads;
+    quiet = reads_nothing;
+  }
+
+-- ---- no read failed
+
+module _ {V : Type 0} (outside : MediaOutside V) (at : Served) (e : Edition) (most n limit m : ℕ) (b c d f g : ButlerState V) (accepts : Accepts b c) (enters : EntersIn e c d)
+    (flushes : Flushes outside (start_of at) most d (Ok n) f) (sends : SendsOn outside e limit f (Ok m) g) where
+  pub none_fails : (turn : Turn) → Fails outside b (Ok turn) g
+  none_fails turn = record {
+    read_failed = read_failed_by outside at e most n limit b c d f g accepts enters flushes (Ok m) sends b.read_failed refl m refl;
+    write_failed = writes_as outside at e most n limit b c d f g accepts enters flushes (Ok m) sends;
+    reads = sends.read.cause.kept ∙ flushed.read_faults outside at e most b c d f accepts enters (Ok n) flushes;
+    writes = writes_stand outside at e most n limit b c d f g accepts enters flushes (Ok m) sends;
+    no_more_sent = no_more_sent outside at e most n limit b c d f g accepts enters flushes (Ok m) sends;
+    no_more_flushed = no_more_flushed outside at e most n limit b c d f g accepts enters flushes (Ok m) sends;
+    read_once = λ was. let once = read_once outside at e most n limit b c d f g accepts enters flushes (Ok m) sends was in (refl, once.0, once.1);
+    write_once = λ was. refl;
+  }
+
+-- ---- a read failed
+
+module _ {V : Type 0} (outside : MediaOutside V) (at : Served) (e : Edition) (most n limit : ℕ) (fault : ReadFailed) (b c d f g : ButlerState V) (accepts : Accepts b c) (enters : EntersIn e c d)
+    (flushes : Flushes outside (start_of at) most d (Ok n) f) (sends : SendsOn outside e limit f (Err fault) g) where
+  pub read_fails : Fails outside b (Err ReadFault) g
+  read_fails = let cause = sends.read.cause in record {
+    read_failed = has_failed outside at e most n limit b c d f g accepts enters flushes (Err fault) sends b.read_failed refl refl;
+    write_failed = writes_as outside at e most n limit b c d f g accepts enters flushes (Err fault) sends;
+    reads = subst (λ (k : ℕ). HasRisen k (outside.read_faults g.media)) (flushed.read_faults outside at e most b c d f accepts enters (Ok n) flushes) (record { later = cause.later; rose = cause.rose });
+    writes = writes_stand outside at e most n limit b c d f g accepts enters flushes (Err fault) sends;
+    no_more_sent = no_more_sent outside at e most n limit b c d f g accepts enters flushes (Err fault) sends;
+    no_more_flushed = no_more_flushed outside at e most n limit b c d f g accepts enters flushes (Err fault) sends;
+    read_once = λ was. let quiet = sends.quiet (before outside at e most n limit b c d f g accepts enters flushes (Err fault) sends ∙ was) in
+        err_is_ok _ (Err fault) 0 refl quiet.1;
+    write_once = λ was. refl;
+  }

@@ -1,0 +1,4 @@
+use Rattle.butler_tests.proofs.steps.with_turns.Given as goal
+
+abbrev pub ghost-turn : goal.ghost-turn
+ghost-turn g a = a.self.now

@@ -1,0 +1,22 @@
+//! What all tracks are served by in one turn.
+use edition_log::Edition;
+use std::marker::Model;
+
+/// The edition that was entered, how far the process came in it, and how many cycles were asked.
+#[derive(Drop)]
+pub struct Pass<'a> {
+    /// The edition that was entered.
+    pub edition: &'a Edition,
+    /// The next block of the edition's generation that is played.
+    pub next: u32,
+    /// How many cycles were asked, at most 100,000.
+    pub cycles: u32,
+}
+
+impl<'a> Model for Pass<'a> {
+    ghost use Rattle.read_ahead.specs.Pass.{PassState};
+
+    ghost Value = { PassState };
+
+    ghost view = { λ p. record { edition = p.edition.now; next = p.next; cycles = p.cycles } };
+}

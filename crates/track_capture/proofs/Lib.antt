@@ -1,0 +1,3 @@
+-- The lemmas of capturing.
+pub mod PickLemmas
+pub mod BlockLemmas
