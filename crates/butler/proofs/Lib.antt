@@ -21,3 +21,4 @@ pub mod GrowLemmas
 pub mod FindLemmas
 pub mod RingMoveLemmas
 pub mod MoveLemmas
+pub mod CoreMoveLemmas

@@ -10,3 +10,4 @@ pub mod Faults
 pub mod Steps
 pub mod Moves
 pub mod Laws
+pub mod CoreMoves

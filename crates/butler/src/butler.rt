@@ -1,4 +1,5 @@
-//! A butler: in a turn it takes acknowledgements, enters the edition, flushes what was recorded, and sends what is due.
+//! A butler: in a turn it takes acknowledgements, enters the edition, flushes what was recorded,
+//! and sends what is due.
 ghost use Rattle.std.specs.Prelude.{◌≡◌, ◌<◌, ◌++◌, [], length, replicate, codes, IfOk, IfErr};
 ghost use Rattle.ses_io.specs.Files.{Files as AllFiles, HasNameUnder};
 ghost use Rattle.session_model.specs.declared.session.Session.{Session as Opening};
@@ -47,7 +48,8 @@ pub(crate) struct Holdings<M: Media> {
     pub(crate) write_failed: bool,
 }
 
-/// Reads ahead and sends, and flushes what was recorded. Between two calls it has one spare box for each ring.
+/// Reads ahead and sends, and flushes what was recorded. Between two calls it has one spare box for
+/// each ring.
 #[derive(Drop)]
 pub struct Butler<M: Media> {
     pub(crate) holds: Holdings<M>,
@@ -135,8 +137,8 @@ fn first_holdings<M: Media>(
 }
 
 impl<M: Media> Butler<M> {
-    /// A butler that sent and flushed nothing yet, with the memory of all its turns. Err is want of memory, and gives the
-    /// media back.
+    /// A butler that sent and flushed nothing yet, with the memory of all its turns. Err is want of
+    /// memory, and gives the media back.
     pub fn new(
         alloc: Global,
         media: M,
@@ -161,9 +163,10 @@ impl<M: Media> Butler<M> {
         Ok(Butler { holds, ends })
     }
 
-    /// Takes acknowledgements until there is none, enters the edition, flushes blocks of the capture rings into the files
-    /// of takes, and sends what is due of each track in order, in all at most so many. It takes no memory. After a
-    /// ReadFault all playback rings are closed, and further turns send nothing; after a WriteFault they flush nothing.
+    /// Takes acknowledgements until there is none, enters the edition, flushes blocks of the
+    /// capture rings into the files of takes, and sends what is due of each track in order, in all
+    /// at most so many. It takes no memory. After a ReadFault all playback rings are closed, and
+    /// further turns send nothing; after a WriteFault they flush nothing.
     pub fn turn(&mut self, e: &Edition, most: u32) -> Result<Turn, ButlerFault>
         ghost at: { Served }
         requires enters { Enters at self.old e.now }

@@ -1,5 +1,6 @@
-//! The butler, the thread that does the disk work: it reads ahead and sends each track's pieces and marks before they are
-//! played, and writes the blocks that were recorded into the files of their takes.
+//! The butler, the thread that does the disk work: it reads ahead and sends each track's pieces and
+//! marks before they are played, and writes the blocks that were recorded into the files of their
+//! takes.
 #![tactic(auto)]
 
 mod accepting;

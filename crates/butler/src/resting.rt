@@ -51,7 +51,8 @@ impl<M: Media> Model for Resting<M> {
 }
 
 impl<M: Media> Butler<M> {
-    /// Whether every capture ring has answered Closed; after a WriteFault, whether the ring of acknowledgements has.
+    /// Whether every capture ring has answered Closed; after a WriteFault, whether the ring of
+    /// acknowledgements has.
     pub fn over(&self) -> bool
         ensures { result ≡ (if self.now.write_failed then self.now.ends.acks.ended
             else list_all (λ r. r.ended) self.now.ends.takes.items) }

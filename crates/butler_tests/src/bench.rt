@@ -20,10 +20,6 @@ pub(crate) enum Fails {
     Nothing,
     /// The n-th call, from 1.
     Call(u64),
-    /// Reads of a file from a place on.
-    Reads(&'static str, u64),
-    /// Writes to a file from a place on.
-    Writes(&'static str, u64),
 }
 
 /// The parts one after the other.
@@ -44,8 +40,6 @@ pub(crate) fn media_of(alloc: Global, files: &[File], fails: Fails) -> Result<Me
     match fails {
         Fails::Nothing => {}
         Fails::Call(n) => media.fail_call(n)?,
-        Fails::Reads(name, from) => media.fail_reads(name, from)?,
-        Fails::Writes(name, from) => media.fail_writes(name, from)?,
     }
     Ok(media)
 }

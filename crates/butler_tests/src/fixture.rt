@@ -5,8 +5,9 @@ ghost use Rattle.edition_log.specs.Entered.{Entered};
 use crate::bench::carry_out;
 use crate::opening::{Opened, open_session};
 use crate::rings::{Rings, new_rings};
-use crate::track_ends::{PutEnd, Taken, TrackEnds};
+use crate::track_ends::{Taken, TrackEnds};
 use butler::{Butler, ButlerFault, Turn};
+use disk_ring::RingIn;
 use edition_log::Edition;
 use piece_item::Ack;
 use ses_io::{Media, NoMemory};
@@ -24,11 +25,11 @@ pub(crate) struct ButlerFixture<M: Media> {
     // How many of the edition's edits the butler entered.
     entered: u32,
     tracks: Vec<TrackEnds>,
-    acks: PutEnd<Ack>,
+    acks: RingIn<Ack>,
 }
 
 impl<M: Media> Model for ButlerFixture<M> {
-    ghost use Rattle.std.specs.Prelude.{◌≡◌};
+    ghost use Rattle.std.specs.Prelude.{◌≡◌, false};
     ghost use Rattle.edition_log.specs.Entered.{Entered};
     ghost use Rattle.butler_tests.specs.Bench.{IsServed, entered_by};
 
@@ -36,7 +37,8 @@ impl<M: Media> Model for ButlerFixture<M> {
 
     ghost view = { λ b. entered_by b.opened b.edition b.entered };
 
-    ghost invariant = { λ b. IsServed b.opened b.butler b.edition b.entered × (b.acks.room ≡ 0) };
+    ghost invariant = { λ b. IsServed b.opened b.butler b.edition b.entered × (b.acks.room ≡ 0)
+        × (b.acks.closed ≡ false) };
 }
 
 impl<M: Media> ButlerFixture<M> {
@@ -104,29 +106,6 @@ impl<M: Media> ButlerFixture<M> {
         self.tracks[track].take(alloc, samples)
     }
 
-    /// Puts a recorded block of a track, by its take and its index; false where its ring doesn't take it.
-    pub(crate) fn put(
-        &mut self,
-        alloc: Global,
-        track: u32,
-        place: (u32, u32),
-        samples: &[i32],
-    ) -> Result<bool, NoMemory> {
-        let track = track as usize;
-        if track >= self.tracks.len() {
-            return Ok(false);
-        }
-        self.tracks[track].put(alloc, place, samples)
-    }
-
-    /// Closes the ring of a track's recorded blocks.
-    pub(crate) fn close(&mut self, track: u32) {
-        let track = track as usize;
-        if track < self.tracks.len() {
-            self.tracks[track].close();
-        }
-    }
-
     /// Tells the butler the next block of a generation.
     pub(crate) fn tell(
         &mut self,
@@ -137,21 +116,6 @@ impl<M: Media> ButlerFixture<M> {
         let mut ack = Ack::blank(alloc)?;
         ack.generation = generation;
         ack.next = next;
-        Ok(self.acks.put(ack))
-    }
-
-    /// Closes the ring of acknowledgements.
-    pub(crate) fn close_acks(&mut self) {
-        self.acks.close();
-    }
-
-    /// Whether the butler is over.
-    pub(crate) fn over(&self) -> bool {
-        self.butler.over()
-    }
-
-    /// The media as the butler leaves it.
-    pub(crate) fn media(self) -> M {
-        self.butler.parts().media
+        Ok(self.acks.put(ack).is_ok())
     }
 }

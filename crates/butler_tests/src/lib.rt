@@ -1,4 +1,4 @@
-//! Values from outside for the butler: what it sends, flushes and reads, turn by turn over real rings.
+//! Values from outside for what a butler sends and reads, turn by turn over real rings.
 #![tactic(auto)]
 
 #[cfg(test)]

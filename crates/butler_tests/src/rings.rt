@@ -4,7 +4,7 @@ ghost use Rattle.session_model.specs.Valid.{IsValid};
 ghost use Rattle.butler.specs.Begins.{IsNewSender, IsNewReceiver};
 ghost use Rattle.butler_tests.specs.Bench.{AreNewEnds, IsNewAckEnd};
 
-use crate::track_ends::{PutEnd, TrackEnds};
+use crate::track_ends::TrackEnds;
 use disk_ring::{RingIn, RingInList, RingOut, RingOutList, ring};
 use piece_item::{Ack, ButlerEnds, Item, TakeBlock};
 use ses_io::NoMemory;
@@ -52,8 +52,6 @@ fn take_ring(
     samples: u32,
 ) -> Result<(RingIn<TakeBlock>, RingOut<TakeBlock>), NoMemory>
     requires { 0 < depth }
-    ensures room { IfOk result (λ r. r.0.room ≡ samples) }
-    ensures still_open { IfOk result (λ r. r.0.closed ≡ false) }
     ensures from { IfOk result (λ r. IsNewReceiver samples r.1) }
 {
     let (to, from) = ring(alloc, depth, blank_blocks(alloc, depth, samples)?)?;
@@ -61,14 +59,15 @@ fn take_ring(
 }
 
 // A ring of one acknowledgement.
-fn ack_ring(alloc: Global) -> Result<(PutEnd<Ack>, RingOut<Ack>), NoMemory>
+fn ack_ring(alloc: Global) -> Result<(RingIn<Ack>, RingOut<Ack>), NoMemory>
     ensures to { IfOk result (λ r. r.0.room ≡ 0) }
+    ensures still_open { IfOk result (λ r. r.0.closed ≡ false) }
     ensures from { IfOk result (λ r. IsNewAckEnd r.1) }
 {
     let mut husks = Vec::new(alloc);
     husks.push(Ack::blank(alloc)?)?;
     let (to, from) = ring(alloc, 1, husks)?;
-    Ok((PutEnd::new(to), from))
+    Ok((to, from))
 }
 
 // The rings of one track: the butler's two ends, and the other ones.
@@ -91,7 +90,7 @@ fn track_rings(
 pub(crate) struct Rings {
     pub(crate) ends: ButlerEnds,
     pub(crate) tracks: Vec<TrackEnds>,
-    pub(crate) acks: PutEnd<Ack>,
+    pub(crate) acks: RingIn<Ack>,
 }
 
 /// New rings for the tracks of a session, and for acknowledgements.
@@ -99,6 +98,7 @@ pub(crate) fn new_rings(alloc: Global, s: &Session) -> Result<Rings, NoMemory>
     requires { IsValid s.now }
     ensures ends { IfOk result (λ r. AreNewEnds s.now r.ends) }
     ensures acks { IfOk result (λ r. r.acks.room ≡ 0) }
+    ensures still_open { IfOk result (λ r. r.acks.closed ≡ false) }
 {
     let routes = s.routes.as_slice();
     let mut sends = RingInList::new(alloc, s.tracks.len() as u32)?;

@@ -32,16 +32,6 @@ pub(crate) enum Step {
     Nothing(u32),
     /// No further item of a track ever comes.
     Closed(u32),
-    /// A block of a track is recorded, by its take and its index.
-    Block(u32, (u32, u32), &'static [i32]),
-    /// The same, and no box is free for it.
-    Full(u32, (u32, u32), &'static [i32]),
-    /// Nothing more of a track is recorded.
-    Close(u32),
-    /// Nothing more is acknowledged.
-    CloseAcks,
-    /// Whether the butler is over.
-    Over(bool),
 }
 
 // Takes one item of each track, and tells how far the first one came.
@@ -165,27 +155,6 @@ fn finds<M: Media>(
     }
 }
 
-// Whether what is recorded is answered as a step says.
-fn records<M: Media>(
-    fixture: &mut ButlerFixture<M>,
-    alloc: Global,
-    step: &Step,
-) -> Result<bool, NoMemory> {
-    match *step {
-        Step::Block(track, place, samples) => fixture.put(alloc, track, place, samples),
-        Step::Full(track, place, samples) => Ok(!fixture.put(alloc, track, place, samples)?),
-        Step::Close(track) => {
-            fixture.close(track);
-            Ok(true)
-        }
-        Step::CloseAcks => {
-            fixture.close_acks();
-            Ok(true)
-        }
-        _ => finds(fixture, alloc, step),
-    }
-}
-
 // Whether a step is answered as it says.
 fn does<M: Media>(
     fixture: &mut ButlerFixture<M>,
@@ -199,8 +168,7 @@ fn does<M: Media>(
         Step::Fault(fault) => Ok(turns(fixture, 100, Err(fault))),
         Step::Idle(turns) => Ok(is_idle(fixture, turns)),
         Step::Turns(turns, sent, idle) => with_turns(fixture, alloc, turns, (sent, idle)),
-        Step::Over(over) => Ok(fixture.over() == over),
-        _ => records(fixture, alloc, step),
+        _ => finds(fixture, alloc, step),
     }
 }
 

@@ -7,8 +7,8 @@ use Rattle.ses_io.specs.Outside.{MediaOutside}
 use Rattle.disk_ring.specs.Receiver.{Receiver}
 use Rattle.piece_item.specs.declared.item.Item.{Item}
 use Rattle.piece_item.specs.declared.butler_ends.ButlerEnds.{ButlerEnds}
-use Rattle.process_cycle.specs.declared.ends.ProcessEnds.{ProcessEnds}
-use Rattle.process_cycle.specs.Ends.{EndsMeet}
+use Rattle.plain_process.specs.declared.ends.ProcessEnds.{ProcessEnds}
+use Rattle.plain_process.specs.Ends.{EndsMeet}
 use Rattle.plain_butler.specs.declared.turning.Turn.{Turn}
 use Rattle.plain_butler.specs.declared.faults.ButlerFault.{ButlerFault}
 use Rattle.plain_butler.specs.ButlerState.{ButlerState as Butler, rested}

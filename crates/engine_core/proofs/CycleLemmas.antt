@@ -26,12 +26,12 @@ use Rattle.piece_item.specs.Views.{ack_of as engine_ack}
 use Rattle.piece_item.specs.declared.item.Item.{Item}
 use Rattle.cycle_journal.specs.declared.entry.Entry.{Entry as Noted}
 use Rattle.cycle_journal.specs.JournalView.{seen_entries, seen_entry}
-use Rattle.process_cycle.specs.declared.cycling.CycleFault.{CycleFault}
-use Rattle.process_cycle.specs.Ends.{AreOfOneRing}
-use Rattle.process_cycle.specs.SpareBoxes.{received_kinds}
-use Rattle.process_cycle.specs.Made.{Acknowledges, Cycles, MayCycle, ack_of, next_entry}
-use Rattle.process_cycle.specs.Playing.{IsPlaying}
-use Rattle.process_cycle.specs.ProcessState.{ProcessState as Process, entries_of}
+use Rattle.plain_process.specs.declared.cycling.CycleFault.{CycleFault}
+use Rattle.plain_process.specs.Ends.{AreOfOneRing}
+use Rattle.plain_process.specs.SpareBoxes.{received_kinds}
+use Rattle.plain_process.specs.Made.{Acknowledges, Cycles, MayCycle, ack_of, next_entry}
+use Rattle.plain_process.specs.Playing.{IsPlaying}
+use Rattle.plain_process.specs.ProcessState.{ProcessState as Process, entries_of}
 use Rattle.plain_butler.specs.Sends.{acks_of, kinds}
 use Rattle.plain_butler.proofs.TableLemmas.{next_more}
 use Rattle.engine_core.specs.declared.engine.Core.{Core}

@@ -21,9 +21,9 @@ use Rattle.piece_item.specs.declared.item.Item.{Item}
 use Rattle.piece_item.specs.declared.take_block.TakeBlock.{TakeBlock}
 use Rattle.piece_item.specs.declared.butler_ends.ButlerEnds.{ButlerEnds}
 use Rattle.piece_item.specs.Views.{item_of, kind_of}
-use Rattle.process_cycle.specs.declared.ends.ProcessEnds.{ProcessEnds}
-use Rattle.process_cycle.specs.declared.finished.TrackRings.{TrackRings}
-use Rattle.process_cycle.specs.Ends.{AreOfOneRing, AreOtherEnds, shut, shut_ends}
+use Rattle.plain_process.specs.declared.ends.ProcessEnds.{ProcessEnds}
+use Rattle.plain_process.specs.declared.finished.TrackRings.{TrackRings}
+use Rattle.plain_process.specs.Ends.{AreOfOneRing, AreOtherEnds, shut, shut_ends}
 use Rattle.plain_butler.specs.Sends.{kinds}
 use Rattle.plain_butler.specs.Serving.{AreGenuine}
 use Rattle.engine_core.specs.declared.closing.Closing.{Closing}

@@ -7,8 +7,8 @@ use Rattle.disk_ring.specs.Receiver.{Receiver}
 use Rattle.disk_ring.specs.Rings.{Joined, Whole, joined_of}
 use Rattle.piece_item.specs.declared.item.Item.{Item}
 use Rattle.piece_item.specs.declared.take_block.TakeBlock.{TakeBlock}
-use Rattle.process_cycle.specs.declared.finished.TrackRings.{TrackRings}
-use Rattle.process_cycle.specs.Ends.{AreOfOneRing}
+use Rattle.plain_process.specs.declared.finished.TrackRings.{TrackRings}
+use Rattle.plain_process.specs.Ends.{AreOfOneRing}
 use Rattle.engine_core.specs.declared.joining.TrackEnds.{TrackEnds}
 use Rattle.engine_core.specs.Rings.{joined_all, AllWhole}
 

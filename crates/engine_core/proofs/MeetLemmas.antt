@@ -18,11 +18,11 @@ use Rattle.piece_item.specs.declared.ack.Ack.{Ack}
 use Rattle.piece_item.specs.declared.item.Item.{Item}
 use Rattle.piece_item.specs.declared.butler_ends.ButlerEnds.{ButlerEnds}
 use Rattle.piece_item.specs.Views.{item_of, kind_of}
-use Rattle.process_cycle.specs.declared.ends.ProcessEnds.{ProcessEnds}
-use Rattle.process_cycle.specs.SpareBoxes.{received_kinds}
-use Rattle.process_cycle.specs.Ends.{AllMeet, AreOfOneRing, AreOtherEnds, EndsMeet, Meet}
-use Rattle.process_cycle.specs.Playing.{IsPlaying}
-use Rattle.process_cycle.specs.ProcessState.{entries_of}
+use Rattle.plain_process.specs.declared.ends.ProcessEnds.{ProcessEnds}
+use Rattle.plain_process.specs.SpareBoxes.{received_kinds}
+use Rattle.plain_process.specs.Ends.{AllMeet, AreOfOneRing, AreOtherEnds, EndsMeet, Meet}
+use Rattle.plain_process.specs.Playing.{IsPlaying}
+use Rattle.plain_process.specs.ProcessState.{entries_of}
 use Rattle.plain_butler.specs.ButlerState.{rested}
 use Rattle.plain_butler.specs.Laws.{AreTold}
 use Rattle.plain_butler.specs.Sends.{kinds}

@@ -12,11 +12,11 @@ use Rattle.cycle_journal.specs.declared.entry.Entry.{Entry as Noted}
 use Rattle.cycle_journal.specs.JournalView.{seen_entries}
 use Rattle.engine_model.specs.Played.{master_form, samples_of}
 use Rattle.engine_laws.specs.PlayedLaws.{block_bytes}
-use Rattle.process_cycle.specs.declared.cycling.CycleFault.{CycleFault}
-use Rattle.process_cycle.specs.declared.finished.Faults.{Faults}
-use Rattle.process_cycle.specs.Made.{header_bytes, next_entry, silent_bytes}
-use Rattle.process_cycle.specs.Playing.{IsPlaying}
-use Rattle.process_cycle.specs.ProcessState.{ProcessState as Process}
+use Rattle.plain_process.specs.declared.cycling.CycleFault.{CycleFault}
+use Rattle.plain_process.specs.declared.finished.Faults.{Faults}
+use Rattle.plain_process.specs.Made.{header_bytes, next_entry, silent_bytes}
+use Rattle.plain_process.specs.Playing.{IsPlaying}
+use Rattle.plain_process.specs.ProcessState.{ProcessState as Process}
 use Rattle.engine_core.specs.declared.engine.Core.{Core}
 use Rattle.engine_core.specs.declared.serial.Run.{Run}
 use Rattle.engine_core.specs.Running.{Runs}

@@ -19,16 +19,16 @@ use Rattle.piece_item.specs.declared.item.Item.{Item}
 use Rattle.piece_item.specs.declared.ack.Ack.{Ack as Acknowledgement}
 use Rattle.piece_item.specs.declared.butler_ends.ButlerEnds.{ButlerEnds}
 use Rattle.piece_item.specs.Views.{item_of, kind_of}
-use Rattle.process_cycle.specs.declared.ends.ProcessEnds.{ProcessEnds}
+use Rattle.plain_process.specs.declared.ends.ProcessEnds.{ProcessEnds}
 use Rattle.cycle_journal.specs.JournalView.{seen_entries}
-use Rattle.process_cycle.specs.declared.playback.SpareBox.{SpareBox}
-use Rattle.process_cycle.specs.declared.playback.SpareBox.TheVariants.{Husk, Held, Lent}
-use Rattle.process_cycle.specs.Answers.{AllLook, Keeps}
-use Rattle.process_cycle.specs.Ends.{AreOtherEnds, EndsMeet}
-use Rattle.process_cycle.specs.SpareBoxes.{offers, received_kinds, HoldsTheLast}
-use Rattle.process_cycle.specs.Looks.{EndsWith, HasAllTold}
-use Rattle.process_cycle.specs.Playing.{IsPlaying, position_of}
-use Rattle.process_cycle.specs.ProcessState.{ProcessState as Process, entries_of}
+use Rattle.plain_process.specs.declared.playback.SpareBox.{SpareBox}
+use Rattle.plain_process.specs.declared.playback.SpareBox.TheVariants.{Husk, Held, Lent}
+use Rattle.plain_process.specs.Answers.{AllLook, Keeps}
+use Rattle.plain_process.specs.Ends.{AreOtherEnds, EndsMeet}
+use Rattle.plain_process.specs.SpareBoxes.{offers, received_kinds, HoldsTheLast}
+use Rattle.plain_process.specs.Looks.{EndsWith, HasAllTold}
+use Rattle.plain_process.specs.Playing.{IsPlaying, position_of}
+use Rattle.plain_process.specs.ProcessState.{ProcessState as Process, entries_of}
 use Rattle.plain_butler.specs.Sends.{kinds, acks_of}
 use Rattle.engine_core.specs.declared.engine.Core.{Core}
 use Rattle.engine_core.specs.Running.{Runs, HasMet}

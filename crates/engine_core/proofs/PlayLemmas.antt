@@ -25,7 +25,7 @@ use Rattle.cycle_journal.specs.JournalView.{seen_entries, seen_entry}
 use Rattle.edition_log.specs.EditionState.{EditionState as Edition, IsOpen}
 use Rattle.piece_item.specs.declared.item.Item.{Item}
 use Rattle.piece_item.specs.Views.{item_of}
-use Rattle.process_cycle.specs.declared.finished.Faults.{Faults}
+use Rattle.plain_process.specs.declared.finished.Faults.{Faults}
 use Rattle.plain_butler.specs.Serving.{AreGenuine}
 use Rattle.engine_core.specs.declared.finishing.Closed.{Closed}
 use Rattle.engine_core.specs.declared.finishing.Ended.{Ended}

@@ -8,9 +8,9 @@ use Rattle.session_model.specs.declared.edit.Edit.{Edit}
 use Rattle.edition_log.specs.EditionState.{EditionState as Edition, IsEditionOf}
 use Rattle.edition_log.specs.Entered.{IsAsOpened}
 use Rattle.piece_item.specs.declared.butler_ends.ButlerEnds.{ButlerEnds}
-use Rattle.process_cycle.specs.Answers as Look
-use Rattle.process_cycle.specs.Playing.{IsPlaying}
-use Rattle.process_cycle.specs.ProcessState.{ProcessState as Process}
+use Rattle.plain_process.specs.Answers as Look
+use Rattle.plain_process.specs.Playing.{IsPlaying}
+use Rattle.plain_process.specs.ProcessState.{ProcessState as Process}
 use Rattle.plain_butler.specs.ButlerState.{ButlerState as Butler}
 use Rattle.plain_butler.specs.Serving.{AreGenuine, IsServing}
 use Rattle.plain_butler.specs.Turns.{Enters, KeepsRest, StaysGenuine, sounds_read}

@@ -10,7 +10,7 @@ use Rattle.engine_model.specs.Due.{Ack}
 use Rattle.disk_ring.specs.Sender.{Sender}
 use Rattle.disk_ring.specs.Receiver.{Receiver}
 use Rattle.piece_item.specs.declared.item.Item.{Item}
-use Rattle.process_cycle.specs.Ends.{AllMeet, AreOfOneRing}
+use Rattle.plain_process.specs.Ends.{AllMeet, AreOfOneRing}
 use Rattle.plain_butler.specs.declared.turning.Turn.{Turn}
 use Rattle.plain_butler.specs.declared.turning.Turn.TheVariants.{Moved, Idle}
 use Rattle.plain_butler.specs.declared.faults.ButlerFault.{ButlerFault}

@@ -7,11 +7,11 @@ use Rattle.ses_io.specs.FixedList.{Listed}
 use Rattle.cycle_journal.specs.declared.entry.Entry.{Entry as Noted}
 use Rattle.disk_ring.specs.Sender.{Sender}
 use Rattle.piece_item.specs.declared.item.Item.{Item}
-use Rattle.process_cycle.specs.declared.process.Look.{Look}
-use Rattle.process_cycle.specs.declared.cycling.CycleFault.{CycleFault}
-use Rattle.process_cycle.specs.Ends.{AreOtherEnds}
-use Rattle.process_cycle.specs.Made.{Cycles}
-use Rattle.process_cycle.specs.ProcessState.{ProcessState as Process}
+use Rattle.plain_process.specs.declared.process.Look.{Look}
+use Rattle.plain_process.specs.declared.cycling.CycleFault.{CycleFault}
+use Rattle.plain_process.specs.Ends.{AreOtherEnds}
+use Rattle.plain_process.specs.Made.{Cycles}
+use Rattle.plain_process.specs.ProcessState.{ProcessState as Process}
 use Rattle.plain_butler.specs.declared.turning.Turn.{Turn}
 use Rattle.plain_butler.specs.declared.turning.Turn.TheVariants.{Moved}
 use Rattle.plain_butler.specs.declared.faults.ButlerFault.{ButlerFault}

@@ -23,13 +23,13 @@ use Rattle.disk_ring.specs.Sender.{Sender}
 use Rattle.disk_ring.specs.Receiver.{Receiver}
 use Rattle.piece_item.specs.declared.ack.Ack.{Ack}
 use Rattle.piece_item.specs.declared.item.Item.{Item}
-use Rattle.process_cycle.specs.declared.ends.ProcessEnds.{ProcessEnds}
-use Rattle.process_cycle.specs.Answers.{AllLook, Keeps}
-use Rattle.process_cycle.specs.Made.{HasBegun}
-use Rattle.process_cycle.specs.Ends.{AreNew, AreOfOneRing, AreOtherEnds, IsNewIn, IsNewOut, block_of}
-use Rattle.process_cycle.specs.SpareBoxes.{received_kinds}
-use Rattle.process_cycle.specs.Playing.{IsPlaying, position_of}
-use Rattle.process_cycle.specs.ProcessState.{ProcessState as Process, entries_of}
+use Rattle.plain_process.specs.declared.ends.ProcessEnds.{ProcessEnds}
+use Rattle.plain_process.specs.Answers.{AllLook, Keeps}
+use Rattle.plain_process.specs.Made.{HasBegun}
+use Rattle.plain_process.specs.Ends.{AreNew, AreOfOneRing, AreOtherEnds, IsNewIn, IsNewOut, block_of}
+use Rattle.plain_process.specs.SpareBoxes.{received_kinds}
+use Rattle.plain_process.specs.Playing.{IsPlaying, position_of}
+use Rattle.plain_process.specs.ProcessState.{ProcessState as Process, entries_of}
 use Rattle.plain_butler.specs.ButlerState.{ButlerState as Butler}
 use Rattle.plain_butler.specs.Sends.{acks_of, kinds}
 use Rattle.plain_butler.specs.Serving.{IsGiven, IsServing, MayBegin}

@@ -19,22 +19,22 @@ use Rattle.disk_ring.specs.Receiver.{Receiver}
 use Rattle.piece_item.specs.declared.ack.Ack.{Ack}
 use Rattle.piece_item.specs.declared.item.Item.{Item}
 use Rattle.piece_item.specs.declared.butler_ends.ButlerEnds.{ButlerEnds}
-use Rattle.process_cycle.specs.declared.ends.ProcessEnds.{ProcessEnds}
+use Rattle.plain_process.specs.declared.ends.ProcessEnds.{ProcessEnds}
 use Rattle.cycle_journal.specs.declared.entry.Entry.{Entry as Noted}
 use Rattle.cycle_journal.specs.JournalView.{seen_entries}
 use Rattle.ses_io.specs.FixedList.{Listed}
-use Rattle.process_cycle.specs.Cycles.{AllLooked}
+use Rattle.plain_process.specs.Cycles.{AllLooked}
 use Rattle.piece_item.specs.Views.{item_of, kind_of}
-use Rattle.process_cycle.specs.declared.playback.TrackPlayback.{TrackPlayback}
-use Rattle.process_cycle.specs.declared.playback.SpareBox.{SpareBox}
-use Rattle.process_cycle.specs.declared.playback.SpareBox.TheVariants.{Husk, Held, Lent}
-use Rattle.process_cycle.specs.declared.play_position.PlayPosition.{PlayPosition}
-use Rattle.process_cycle.specs.Answers.{AllLook, Keeps}
-use Rattle.process_cycle.specs.Ends.{AreOfOneRing, AreOtherEnds}
-use Rattle.process_cycle.specs.SpareBoxes.{held, offers, received_kinds, HoldsTheLast}
-use Rattle.process_cycle.specs.Looks.{EndsWith, Looks}
-use Rattle.process_cycle.specs.Playing.{IsPlaying, position_of}
-use Rattle.process_cycle.specs.ProcessState.{ProcessState as Process, entries_of}
+use Rattle.plain_process.specs.declared.playback.TrackPlayback.{TrackPlayback}
+use Rattle.plain_process.specs.declared.playback.SpareBox.{SpareBox}
+use Rattle.plain_process.specs.declared.playback.SpareBox.TheVariants.{Husk, Held, Lent}
+use Rattle.plain_process.specs.declared.play_position.PlayPosition.{PlayPosition}
+use Rattle.plain_process.specs.Answers.{AllLook, Keeps}
+use Rattle.plain_process.specs.Ends.{AreOfOneRing, AreOtherEnds}
+use Rattle.plain_process.specs.SpareBoxes.{held, offers, received_kinds, HoldsTheLast}
+use Rattle.plain_process.specs.Looks.{EndsWith, Looks}
+use Rattle.plain_process.specs.Playing.{IsPlaying, position_of}
+use Rattle.plain_process.specs.ProcessState.{ProcessState as Process, entries_of}
 use Rattle.plain_butler.specs.ButlerState.{ButlerState as Butler}
 use Rattle.plain_butler.specs.Sends.{kinds, acks_of, SendsOf}
 use Rattle.plain_butler.specs.Serving.{IsServing}

@@ -30,11 +30,11 @@ use Rattle.cycle_journal.specs.declared.entry.Entry.{Entry as Noted}
 use Rattle.disk_ring.specs.Receiver.{Receiver}
 use Rattle.piece_item.specs.declared.item.Item.{Item}
 use Rattle.piece_item.specs.Views.{item_of}
-use Rattle.process_cycle.specs.declared.cycling.CycleFault.{CycleFault}
-use Rattle.process_cycle.specs.Ends.{AreOtherEnds}
-use Rattle.process_cycle.specs.SpareBoxes.{received_items, received_kinds}
-use Rattle.process_cycle.specs.Made.{Cycles, next_block, next_entry}
-use Rattle.process_cycle.specs.ProcessState.{ProcessState as Process, entries_of}
+use Rattle.plain_process.specs.declared.cycling.CycleFault.{CycleFault}
+use Rattle.plain_process.specs.Ends.{AreOtherEnds}
+use Rattle.plain_process.specs.SpareBoxes.{received_items, received_kinds}
+use Rattle.plain_process.specs.Made.{Cycles, next_block, next_entry}
+use Rattle.plain_process.specs.ProcessState.{ProcessState as Process, entries_of}
 use Rattle.plain_butler.specs.Serving.{AreGenuine}
 use Rattle.engine_core.specs.declared.engine.Core.{Core}
 use Rattle.engine_core.specs.Running.{HasMet, HasLookedAround, received, noted}

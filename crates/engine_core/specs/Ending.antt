@@ -5,7 +5,7 @@ use Rattle.ses_io.specs.Outside.{MediaOutside, OnlyReads}
 use Rattle.edition_log.specs.Entered.{IsAsOpened}
 use Rattle.disk_ring.specs.Receiver.{Receiver}
 use Rattle.piece_item.specs.declared.item.Item.{Item}
-use Rattle.process_cycle.specs.Ends.{AreOtherEnds}
+use Rattle.plain_process.specs.Ends.{AreOtherEnds}
 use Rattle.plain_butler.specs.Serving.{IsServing}
 use Rattle.plain_butler.specs.declared.turning.Turn.{Turn}
 use Rattle.plain_butler.specs.declared.turning.Turn.TheVariants.{Moved, Idle}

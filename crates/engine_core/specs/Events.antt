@@ -15,11 +15,11 @@ use Rattle.audio_source.specs.Lines.{SourcesState}
 use Rattle.audio_source.specs.Told.{source_sound}
 use Rattle.cycle_journal.specs.JournalView.{seen_entries}
 use Rattle.edition_log.specs.EditionState.{EditionState as Edition, IsEditionOf}
-use Rattle.process_cycle.specs.declared.finished.Faults.{Faults}
-use Rattle.process_cycle.specs.declared.finished.Finished.{Finished}
-use Rattle.process_cycle.specs.declared.finished.TrackRings.{TrackRings}
-use Rattle.process_cycle.specs.declared.opened.Opened.{Opened}
-use Rattle.process_cycle.specs.declared.opened.Script.{Script}
+use Rattle.plain_process.specs.declared.finished.Faults.{Faults}
+use Rattle.plain_process.specs.declared.finished.Finished.{Finished}
+use Rattle.plain_process.specs.declared.finished.TrackRings.{TrackRings}
+use Rattle.plain_process.specs.declared.opened.Opened.{Opened}
+use Rattle.plain_process.specs.declared.opened.Script.{Script}
 use Rattle.engine_core.specs.declared.events.Event.{Event}
 use Rattle.engine_core.specs.declared.finishing.Ended.{Ended}
 use Rattle.engine_core.specs.Begun.{Begun}

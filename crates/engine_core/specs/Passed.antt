@@ -9,7 +9,7 @@ use Rattle.engine_model.specs.Played.{samples_of, IsGenuine}
 use Rattle.engine_model.specs.Truth.{IsTruthful}
 use Rattle.disk_ring.specs.Rings.{Whole}
 use Rattle.piece_item.specs.Views.{item_of}
-use Rattle.process_cycle.specs.declared.finished.TrackRings.{TrackRings}
+use Rattle.plain_process.specs.declared.finished.TrackRings.{TrackRings}
 use Rattle.plain_butler.specs.Sends.{kinds}
 
 -- the rings of track t

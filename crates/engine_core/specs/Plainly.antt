@@ -13,9 +13,9 @@ use Rattle.engine_laws.specs.SerialLaws.{AreFew, IsReady, none_is_held}
 use Rattle.disk_ring.specs.Sender.{Sender}
 use Rattle.disk_ring.specs.Receiver.{Receiver}
 use Rattle.piece_item.specs.declared.item.Item.{Item}
-use Rattle.process_cycle.specs.declared.cycling.CycleFault.{CycleFault}
-use Rattle.process_cycle.specs.SpareBoxes.{received_kinds}
-use Rattle.process_cycle.specs.ProcessState.{entries_of}
+use Rattle.plain_process.specs.declared.cycling.CycleFault.{CycleFault}
+use Rattle.plain_process.specs.SpareBoxes.{received_kinds}
+use Rattle.plain_process.specs.ProcessState.{entries_of}
 use Rattle.plain_butler.specs.declared.turning.Turn.{Turn}
 use Rattle.plain_butler.specs.declared.turning.Turn.TheVariants.{Idle}
 use Rattle.plain_butler.specs.declared.faults.ButlerFault.{ButlerFault}

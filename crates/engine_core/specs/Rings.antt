@@ -4,10 +4,10 @@ use Rattle.session_model.specs.declared.session.Session.{Session}
 use Rattle.disk_ring.specs.Sender.{Sender}
 use Rattle.disk_ring.specs.Receiver.{Receiver}
 use Rattle.disk_ring.specs.Rings.{IsNewRing, Whole, joined_of}
-use Rattle.process_cycle.specs.declared.finished.TrackRings.{TrackRings}
+use Rattle.plain_process.specs.declared.finished.TrackRings.{TrackRings}
 use Rattle.piece_item.specs.declared.item.Item.{Item}
 use Rattle.piece_item.specs.declared.take_block.TakeBlock.{TakeBlock}
-use Rattle.process_cycle.specs.Ends.{block_of}
+use Rattle.plain_process.specs.Ends.{block_of}
 use Rattle.engine_core.specs.declared.joining.TrackEnds.{TrackEnds}
 
 -- the two ends of a new ring of so many boxes of so many samples

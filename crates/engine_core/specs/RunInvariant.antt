@@ -4,7 +4,7 @@ use Rattle.ses_io.specs.Outside.{MediaOutside, SinkOutside, OnlyReads}
 use Rattle.ses_io.specs.Streams.{AppendsSome}
 use Rattle.audio_source.specs.Told.{source_sound}
 use Rattle.edition_log.specs.EditionState.{EditionState as Edition}
-use Rattle.process_cycle.specs.declared.finished.Faults.{Faults}
+use Rattle.plain_process.specs.declared.finished.Faults.{Faults}
 use Rattle.plain_butler.specs.ButlerState.{ButlerState as Butler}
 use Rattle.plain_butler.specs.Serving.{AreGenuine}
 use Rattle.engine_core.specs.declared.engine.Core.{Core}

@@ -13,11 +13,11 @@ use Rattle.disk_ring.specs.Sender.{Sender}
 use Rattle.disk_ring.specs.Receiver.{Receiver}
 use Rattle.piece_item.specs.declared.item.Item.{Item}
 use Rattle.cycle_journal.specs.JournalView.{seen_entries}
-use Rattle.process_cycle.specs.SpareBoxes.{received_kinds}
-use Rattle.process_cycle.specs.Ends.{AreOtherEnds}
-use Rattle.process_cycle.specs.Cycles.{AllLooked}
-use Rattle.process_cycle.specs.Playing.{IsPlaying, position_of}
-use Rattle.process_cycle.specs.ProcessState.{ProcessState as Process, entries_of}
+use Rattle.plain_process.specs.SpareBoxes.{received_kinds}
+use Rattle.plain_process.specs.Ends.{AreOtherEnds}
+use Rattle.plain_process.specs.Cycles.{AllLooked}
+use Rattle.plain_process.specs.Playing.{IsPlaying, position_of}
+use Rattle.plain_process.specs.ProcessState.{ProcessState as Process, entries_of}
 use Rattle.plain_butler.specs.Sends.{kinds}
 use Rattle.plain_butler.specs.Serving.{IsServing}
 use Rattle.engine_core.specs.declared.engine.Core.{Core}

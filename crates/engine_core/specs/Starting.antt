@@ -11,8 +11,8 @@ use Rattle.edition_log.specs.EditionState.{EditionState as Edition}
 use Rattle.edition_log.specs.Entered.{IsAsOpened}
 use Rattle.disk_ring.specs.Sender.{Sender}
 use Rattle.piece_item.specs.declared.item.Item.{Item}
-use Rattle.process_cycle.specs.declared.finished.Faults.{Faults}
-use Rattle.process_cycle.specs.Made.{HasBegun}
+use Rattle.plain_process.specs.declared.finished.Faults.{Faults}
+use Rattle.plain_process.specs.Made.{HasBegun}
 use Rattle.plain_butler.specs.Serving.{IsGiven, IsServing}
 use Rattle.engine_core.specs.declared.serial.Run.{Run}
 use Rattle.engine_core.specs.declared.starting.Started.{Started}

@@ -2,11 +2,11 @@
 use Rattle.std.specs.Prelude.{◌≡◌, Result, OnOk, OnErr}
 use Rattle.session_model.specs.declared.session.Session.{Session}
 use Rattle.ses_io.specs.Outside.{MediaOutside}
-use Rattle.process_cycle.specs.declared.process.Look.{Look}
-use Rattle.process_cycle.specs.Ends.{EndsMeet}
-use Rattle.process_cycle.specs.Answers.{Keeps, LookAnswers, LooksAtAll}
-use Rattle.process_cycle.specs.declared.cycling.CycleFault.{CycleFault}
-use Rattle.process_cycle.specs.Made.{Cycles}
+use Rattle.plain_process.specs.declared.process.Look.{Look}
+use Rattle.plain_process.specs.Ends.{EndsMeet}
+use Rattle.plain_process.specs.Answers.{Keeps, LookAnswers, LooksAtAll}
+use Rattle.plain_process.specs.declared.cycling.CycleFault.{CycleFault}
+use Rattle.plain_process.specs.Made.{Cycles}
 use Rattle.plain_butler.specs.declared.turning.Turn.{Turn}
 use Rattle.plain_butler.specs.declared.faults.ButlerFault.{ButlerFault}
 use Rattle.plain_butler.specs.Table.{TakesAll}

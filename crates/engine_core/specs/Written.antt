@@ -11,8 +11,8 @@ use Rattle.ses_io.specs.Streams.{AppendsSome}
 use Rattle.engine_model.specs.Journal.{Entry}
 use Rattle.engine_model.specs.Played.{Samples, master_form, samples_of}
 use Rattle.engine_laws.specs.PlayedLaws.{block_bytes}
-use Rattle.process_cycle.specs.declared.cycling.CycleFault.{CycleFault}
-use Rattle.process_cycle.specs.Made.{next_entry}
+use Rattle.plain_process.specs.declared.cycling.CycleFault.{CycleFault}
+use Rattle.plain_process.specs.Made.{next_entry}
 use Rattle.engine_core.specs.declared.engine.Core.{Core}
 use Rattle.engine_core.specs.Begun.{Begun}
 use Rattle.engine_core.specs.Running.{noted}

@@ -6,7 +6,7 @@ ghost use Rattle.engine_core.specs.Ending.{IsClosing, LastTurnsKeep, SendsMore};
 use crate::answers::{is_idle, with_fault};
 use edition_log::Edition;
 use plain_butler::{Butler, ButlerFault, Turn};
-use process_cycle::{ProcessEnds, meet_ends};
+use plain_process::{ProcessEnds, meet_ends};
 use ses_io::Media;
 
 /// The butler in the newest edition, and the ends that the process left.

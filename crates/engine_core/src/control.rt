@@ -6,7 +6,7 @@ ghost use Rattle.edition_log.specs.Entered.{IsAsOpened};
 ghost use Rattle.engine_core.specs.Control.{is_of_export, Obeys, IsControlled};
 
 use edition_log::Edition;
-use process_cycle::Script;
+use plain_process::Script;
 use session_model::Edit;
 
 /// One control line of an export: its edit is accepted, or refused and nothing changes.

@@ -14,7 +14,7 @@ use edition_log::Edition;
 use engine_laws::genuine_pieces_make_the_block;
 use piece_item::Ack;
 use plain_butler::{Butler, ButlerFault, Turn};
-use process_cycle::{CycleFault, Look, Process};
+use plain_process::{CycleFault, Look, Process};
 use ses_io::{Media, Sink};
 
 /// The two workers in one edition.

@@ -6,7 +6,7 @@ ghost use Rattle.engine_core.specs.Events.{MayRun, LeavesARun, SendsGenuine, Get
 
 use crate::finishing::Ended;
 use crate::playing::play_script;
-use process_cycle::{Finished, Opened};
+use plain_process::{Finished, Opened};
 use ses_io::{Media, Sink, Source, World};
 use std::alloc::Global;
 

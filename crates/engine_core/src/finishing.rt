@@ -14,7 +14,7 @@ use cycle_journal::Journal;
 use disk_ring::{Ring, RingIn, RingOut, rejoin};
 use piece_item::{Ack, ButlerEnds};
 use plain_butler::{Butler, ButlerParts};
-use process_cycle::{Faults, ProcessEnds, ProcessParts, RingsList};
+use plain_process::{Faults, ProcessEnds, ProcessParts, RingsList};
 use ses_io::{Media, Sink};
 use session_model::EditList;
 

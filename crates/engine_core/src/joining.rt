@@ -2,11 +2,11 @@
 ghost use Rattle.std.specs.Prelude.{◌≡◌, ◌<◌, ◌∷◌, [], ◌≤◌, length};
 ghost use Rattle.std.specs.Vec.Iter.{into_iter_items};
 ghost use Rattle.engine_core.specs.Rings.{joined_ends, AllWhole};
-ghost use Rattle.process_cycle.specs.Ends.{AreOfOneRing};
+ghost use Rattle.plain_process.specs.Ends.{AreOfOneRing};
 
 use disk_ring::{RingInList, RingOutList, rejoin};
 use piece_item::{Item, TakeBlock};
-use process_cycle::{RingsList, TrackRings};
+use plain_process::{RingsList, TrackRings};
 use std::alloc::Global;
 use std::vec::IntoIter;
 

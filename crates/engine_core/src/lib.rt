@@ -21,4 +21,4 @@ mod starting;
 mod workers;
 
 pub use events::{Event, run_events};
-pub use process_cycle::{Faults, Finished, Grant, Opened, RingsList, Script, TrackRings};
+pub use plain_process::{Faults, Finished, Grant, Opened, RingsList, Script, TrackRings};

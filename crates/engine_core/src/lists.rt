@@ -3,7 +3,7 @@ ghost use Rattle.std.specs.Prelude.{◌≡◌, ◌≤◌, [], IfOk};
 ghost use Rattle.engine_core.specs.Starting.{no_lists};
 
 use edition_log::Edition;
-use process_cycle::RingsList;
+use plain_process::RingsList;
 use ses_io::{FixedList, NoMemory};
 use ses_units::limits::EDITS;
 use session_model::EditList;

@@ -1,6 +1,6 @@
 //! A run from the header of its master to its last block.
 ghost use Rattle.std.specs.Prelude.{◌≡◌, true};
-ghost use Rattle.process_cycle.specs.Made.{header_bytes, silent_bytes};
+ghost use Rattle.plain_process.specs.Made.{header_bytes, silent_bytes};
 ghost use Rattle.engine_core.specs.Begun.{Begun};
 ghost use Rattle.engine_core.specs.RunInvariant.{IsUnderWay, IsFresh, IsPerforming, MasterGets, Makes};
 

@@ -12,7 +12,7 @@ use crate::finishing::{Ended, close, part};
 use crate::starting::{Started, start};
 use audio_source::Sources;
 use edition_log::Edition;
-use process_cycle::Script;
+use plain_process::Script;
 use ses_io::{Media, Sink};
 use std::alloc::Global;
 

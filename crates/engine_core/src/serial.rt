@@ -8,7 +8,7 @@ ghost use Rattle.engine_core.specs.RunInvariant.{HasRoomFor, IsRunning, IsPerfor
 use crate::answers::{failed, is_idle, with_fault};
 use crate::engine::Core;
 use plain_butler::ButlerFault;
-use process_cycle::Faults;
+use plain_process::Faults;
 use ses_io::{Media, Sink};
 
 /// The two workers between two cycles, and what failed so far.

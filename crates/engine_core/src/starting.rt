@@ -11,7 +11,7 @@ use crate::serial::Run;
 use crate::workers::{Workers, new_workers};
 use audio_source::Sources;
 use edition_log::Edition;
-use process_cycle::Faults;
+use plain_process::Faults;
 use ses_io::{Media, Sink};
 use std::alloc::Global;
 

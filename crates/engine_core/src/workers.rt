@@ -9,7 +9,7 @@ use disk_ring::RingOut;
 use edition_log::Edition;
 use piece_item::Ack;
 use plain_butler::Butler;
-use process_cycle::{Process, ProcessParts};
+use plain_process::{Process, ProcessParts};
 use ses_io::{Media, Sink};
 use std::alloc::Global;
 

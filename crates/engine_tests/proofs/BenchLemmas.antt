@@ -20,11 +20,11 @@ use Rattle.piece_item.specs.declared.item.Item.{Item}
 use Rattle.edition_log.specs.EditionState.{EditionState as Edition}
 use Rattle.edition_log.specs.Entered.{Entered, IsAsOpened}
 use Rattle.edition_log.proofs.AsOpenedLemmas.{as_opened_first}
-use Rattle.process_cycle.specs.declared.ends.ProcessEnds.{ProcessEnds}
-use Rattle.process_cycle.specs.Answers.{MayLook}
-use Rattle.process_cycle.specs.Ends.{AreNew, IsNewIn, IsNewOut, block_of}
-use Rattle.process_cycle.specs.Playing.{IsPlaying}
-use Rattle.process_cycle.specs.ProcessState.{ProcessState}
+use Rattle.plain_process.specs.declared.ends.ProcessEnds.{ProcessEnds}
+use Rattle.plain_process.specs.Answers.{MayLook}
+use Rattle.plain_process.specs.Ends.{AreNew, IsNewIn, IsNewOut, block_of}
+use Rattle.plain_process.specs.Playing.{IsPlaying}
+use Rattle.plain_process.specs.ProcessState.{ProcessState}
 use Rattle.engine_tests.specs.Bench.{entered_by, IsPair, IsOpening, AreTwoEnds, AreTwoRings, IsPlayed}
 
 -- ---- rings

@@ -7,10 +7,10 @@ use Rattle.engine_model.specs.PlainSession.{is_plain}
 use Rattle.piece_item.specs.declared.item.Item.{Item}
 use Rattle.edition_log.specs.EditionState.{EditionState as Edition, IsEditionOf}
 use Rattle.edition_log.specs.Entered.{Entered, IsAsOpened}
-use Rattle.process_cycle.specs.declared.ends.ProcessEnds.{ProcessEnds}
-use Rattle.process_cycle.specs.Ends.{IsNewIn, IsNewOut}
-use Rattle.process_cycle.specs.Playing.{IsPlaying}
-use Rattle.process_cycle.specs.ProcessState.{ProcessState}
+use Rattle.plain_process.specs.declared.ends.ProcessEnds.{ProcessEnds}
+use Rattle.plain_process.specs.Ends.{IsNewIn, IsNewOut}
+use Rattle.plain_process.specs.Playing.{IsPlaying}
+use Rattle.plain_process.specs.ProcessState.{ProcessState}
 
 -- the session of an edition, and its first so many edits
 abbrev pub entered_by : Edition → ℕ → Entered

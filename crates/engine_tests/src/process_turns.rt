@@ -9,7 +9,7 @@ use crate::bench::rings::{TwoRings, two_rings};
 use crate::bench::{File, opening, row_holds};
 use edition_log::Edition;
 use fixture::ProcessFixture;
-use process_cycle::ProcessParts;
+use plain_process::ProcessParts;
 use runs::{RUNS, Step};
 use ses_io::{MemSink, NoMemory};
 use std::alloc::Global;

@@ -1,17 +1,20 @@
--- What a look does to a track, and how a process goes on.
-mod ListLemmas
-mod LookLemmas
-mod PlaybackLemmas
-mod HeardLemmas
-mod MixingLemmas
-mod NotingLemmas
-mod TrackLemmas
-mod PlaybacksLemmas
-mod NewLemmas
+-- What stands of a process while it looks, meets and makes entries.
+pub mod CountedLemmas
+pub mod ToldLemmas
+pub mod CapturedLemmas
+pub mod BlockLemmas
+pub mod TruthLemmas
+pub mod PromiseLemmas
+pub mod MasterLemmas
 mod MeetLemmas
+mod PutLemmas
+mod BeginLemmas
+mod CapturingLemmas
+mod NewLemmas
+mod ClosedLemmas
 mod PlayingLemmas
 mod MeetingLemmas
 mod EntryLemmas
+mod MadeLemmas
 mod CycleLemmas
-mod HeaderLemmas
-mod ScratchLemmas
+mod NotedLemmas

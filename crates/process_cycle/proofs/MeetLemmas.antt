@@ -1,13 +1,18 @@
 -- Ends meet one pair after the other, and are closed one after the other.
-use Rattle.std.proofs.Common.{◌≡◌, ℕ, ◌<◌, ◌≤◌, ◌+◌, List, length, set, ◌∙◌, sym, subst, slice_index_or, arith}
+use Rattle.std.proofs.Common.{◌≡◌, ℕ, zero, suc, ◌<◌, ◌≤◌, ◌+◌, List, [], ◌∷◌, length, set, refl, ◌∙◌, sym, subst, slice_index_or, arith}
 use Rattle.std.specs.Prelude.{map}
 use mathlib.Core.Logic.{dite}
 use native.Mathlib.Decide.{ℕ_discrete}
 use Rattle.std.proofs.lemmas.List.{get_or-set_same, get_or-set_other, get_or_default, length-set, length-map, same_lists}
-use Rattle.process_cycle.proofs.ListLemmas.{mapped_at}
 use Rattle.disk_ring.specs.Sender.{Sender}
 use Rattle.disk_ring.specs.Receiver.{Receiver}
 use Rattle.process_cycle.specs.Ends.{AllMeet, Meet, shut}
+
+-- an item of a list whose items were all changed
+mapped_at : {X Y : Type 0} (f : X → Y) (xs : List X) (k : ℕ) (x : X) (y : Y) → k < length xs → slice_index_or (map f xs) k y ≡ f (slice_index_or xs k x)
+mapped_at f [] k x y within = absurd (omega arith)
+mapped_at f (z ∷ xs) zero x y within = refl
+mapped_at f (z ∷ xs) (suc k) x y within = mapped_at f xs k x y (omega arith)
 
 module _ {T : Type 0} where
   -- the pairs below a number met, and the others are as they were

@@ -1,5 +1,5 @@
 -- The ends of the rings of a run as the process has them: new ones, how they meet the butler's, and how they are closed.
-use Rattle.std.specs.Prelude.{◌≡◌, ℕ, ◌*◌, ◌<◌, true, false, List, [], length, map, slice_index_or}
+use Rattle.std.specs.Prelude.{◌≡◌, ℕ, ◌*◌, ◌<◌, true, false, List, [], length, map, slice_get, slice_index_or, Some}
 use Rattle.session_model.specs.declared.session.Session.{Session}
 use Rattle.session_model.specs.Formed.{channels_at}
 use Rattle.disk_ring.specs.Sender.{Sender}
@@ -20,6 +20,7 @@ module _ {T : Type 0} where
     pub depth : r.depth ≡ items
     pub room : r.room ≡ samples
     pub received : r.received ≡ []
+    pub tails : r.tails ≡ []
     pub ended : r.ended ≡ false
 
   -- an end that puts, likewise
@@ -27,6 +28,7 @@ module _ {T : Type 0} where
     pub depth : a.depth ≡ items
     pub room : a.room ≡ samples
     pub sent : a.sent ≡ []
+    pub heads : a.heads ≡ []
     pub closed : a.closed ≡ false
 
 -- the ends of new rings: of each track two, whose boxes have a block of it, and two of acknowledgements
@@ -37,6 +39,10 @@ pub record AreNew (s : Session) (ends : ProcessEnds) : Type 0 where
   pub each_take : (t : ℕ) (a : Sender TakeBlock) → t < length s.tracks.items → IsNewIn s.depth (block_of s t) (slice_index_or ends.takes.items t a)
   pub to_butler : IsNewIn s.depth 0 ends.to_butler
   pub to_control : IsNewIn s.depth 0 ends.to_control
+
+-- each track's boxes have a block of it
+abbrev pub HaveRooms : Session → List (Receiver Item) → Type 0
+HaveRooms s plays = (t : ℕ) (r : Receiver Item) → slice_get plays t ≡ Some r → r.room ≡ block_of s t
 
 -- ---- meeting
 

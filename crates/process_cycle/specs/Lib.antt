@@ -1,9 +1,13 @@
--- What one look does to a track, what a process has, and what its calls do.
-pub mod SpareBoxes
-pub mod Looks
+-- What contracts see of a process, what it promises of its rings and its journal, and what its calls do.
 pub mod Ends
+pub mod Told
+pub mod Captured
 pub mod ProcessState
+pub mod Promised
 pub mod Playing
-pub mod Answers
+pub mod Looked
 pub mod Cycles
-pub mod Made
+pub mod Heard
+pub mod Making
+pub mod Noting
+pub mod Laws

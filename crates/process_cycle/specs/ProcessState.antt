@@ -1,20 +1,30 @@
 -- What contracts see of a process.
-use Rattle.std.specs.Prelude.{◌≡◌, ℕ, ◌<◌, List, length, reverse, slice_index_or}
+use Rattle.std.specs.Prelude.{ℕ, List, map, reverse}
 use Rattle.ses_io.specs.FixedList.{Listed}
-use Rattle.sound_model.specs.Wav.{Form}
+use Rattle.session_model.specs.declared.session.Session.{Session}
+use Rattle.session_model.specs.declared.edit.Edit.{Edit}
+use Rattle.engine_model.specs.Items.{Kind, Item}
 use Rattle.engine_model.specs.Journal as engine
-use Rattle.disk_ring.specs.Receiver.{Receiver}
-use Rattle.piece_item.specs.declared.item.Item.{Item}
+use Rattle.engine_model.specs.Takes.{Input}
 use Rattle.cycle_journal.specs.declared.entry.Entry.{Entry}
 use Rattle.cycle_journal.specs.JournalView.{seen_entries}
-use Rattle.process_cycle.specs.declared.playback.TrackPlayback.{TrackPlayback}
+use Rattle.input_blocks.specs.Rest.{rest_sound}
+use Rattle.input_blocks.specs.State.{InputState}
+use Rattle.master_blocks.specs.State.{MasterState}
+use Rattle.track_capture.specs.declared.capture.TrackCapture.{TrackCapture}
+use Rattle.track_playback.specs.declared.playback.TrackPlayback.{TrackPlayback}
+use Rattle.track_playback.specs.declared.play_position.PlayPosition.{PlayPosition}
+use Rattle.track_playback.specs.SpareBoxes.{received_items, received_kinds}
 use Rattle.process_cycle.specs.declared.ends.ProcessEnds.{ProcessEnds}
 
-pub record ProcessState (W : Type 0) : Type 0 where
-  pub master : W
+pub record ProcessState (I W : Type 0) : Type 0 where
+  pub input : InputState I
+  pub master : MasterState W
   pub ends : ProcessEnds
   -- of each track its window, its spare box, and what its last look found
   pub playbacks : List TrackPlayback
+  -- of each track how its takes are counted, and a box for its next block
+  pub captures : List TrackCapture
   -- the entries made so far, with their room
   pub journal : Listed Entry
   -- the items of a ring, which are the blocks of a window
@@ -22,15 +32,35 @@ pub record ProcessState (W : Type 0) : Type 0 where
   -- the generation of the edition last given, and how many entries rolled in it
   pub generation : ℕ
   pub next : ℕ
-  -- the form of the master, and the frames of a block
-  pub form : Form
-  pub block : ℕ
 
--- the entries, newest first
-abbrev pub entries_of : {W : Type 0} → ProcessState W → List engine.Entry
-entries_of p = reverse (seen_entries p.journal.items)
+-- What no process holds and clauses speak of.
+pub record Playing : Type 0 where
+  pub session : Session
+  -- the edits of the edition that it was given last
+  pub edits : List Edit
+  -- the bytes that the input had left before its first block, and those that the master held before its header
+  pub start : List ℕ
+  pub before : List ℕ
 
--- of each track the playback knows whether the ring has answered Closed
-pub record KnowsTheEnds (plays : List (Receiver Item)) (playbacks : List TrackPlayback) : Type 0 where
-  pub count : length playbacks ≡ length plays
-  pub closed : (t : ℕ) (r : Receiver Item) (d : TrackPlayback) → t < length plays → (slice_index_or playbacks t d).closed ≡ (slice_index_or plays t r).ended
+-- a later edition was given
+abbrev pub entered : List Edit → Playing → Playing
+entered edits at = record at { edits = edits }
+
+module _ {I W : Type 0} where
+  -- the entries, newest first
+  abbrev pub entries_of : ProcessState I W → List engine.Entry
+  entries_of p = reverse (seen_entries p.journal.items)
+
+  abbrev pub position_of : ProcessState I W → PlayPosition
+  position_of p = record { depth = p.depth; generation = p.generation; next = p.next }
+
+  -- what was received of each track
+  abbrev pub kinds_of : ProcessState I W → List (List Kind)
+  kinds_of p = map received_kinds p.ends.plays.items
+
+  abbrev pub items_of : ProcessState I W → List (List Item)
+  items_of p = map received_items p.ends.plays.items
+
+  -- the sound of the input, by what it had left at first
+  abbrev pub sound_of : Playing → ProcessState I W → Input
+  sound_of at p = rest_sound p.input.stream at.start

@@ -1,6 +1,6 @@
 //! How acknowledgements go into a ring: one box is spare, and each call puts it or keeps it.
 ghost use Rattle.std.specs.Prelude.{◌≡◌, false};
-ghost use Rattle.process_cycle.specs.Made.{Acknowledges};
+ghost use Rattle.process_cycle.specs.Cycles.{Acknowledges};
 
 use disk_ring::{Full, RingIn};
 use piece_item::Ack;
@@ -34,7 +34,7 @@ impl AckSender {
 
     /// Puts an acknowledgement, where the ring isn't full. It takes no memory.
     pub(crate) fn send(&mut self, ring: &mut RingIn<Ack>, ack: Ack)
-        requires open { ring.old.closed ≡ false }
+        requires still_open { ring.old.closed ≡ false }
         requires room { ring.old.room ≡ 0 }
         ensures { Acknowledges ack ring.old ring.new }
     {

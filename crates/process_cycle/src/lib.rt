@@ -1,28 +1,23 @@
-//! The process: it looks at the rings of pieces, plays what it received, and notes each cycle.
+//! The process: it looks at the rings of pieces, reads the input, plays what it received, captures
+//! what is recorded, and notes each cycle.
 //!
-//! To *gather* is one look of each track: items are taken from its ring and offered to its window, until the ring has no more,
-//! or one is held, for which it is too early. An entry's settled number is the newest edition by which all tracks are settled.
-//! An *underrun* is a track that is played and has no piece: it is silent, and noted as short.
+//! To *gather* is one look of each track, in the edition that it is given. A *cycle* reads a block
+//! of the input, mixes and writes the master, captures the tracks that are recorded, notes its
+//! entry, and acknowledges it to butler and control. Neither takes memory, a lock or a wait.
 #![tactic(auto)]
 
 mod ack_sender;
-mod cycling;
+mod capturing;
 mod ends;
-mod finished;
-mod looking;
+mod fault;
+mod laws;
 mod meeting;
-mod mixing;
-mod noting;
-mod opened;
-mod play_position;
-mod playback;
-mod playbacks;
+mod position;
 mod process;
-mod scratch;
+mod putting;
 
-pub use cycling::CycleFault;
 pub use ends::ProcessEnds;
-pub use finished::{Faults, Finished, Grant, RingsList, TrackRings};
+pub use fault::CycleFault;
+pub use laws::{promises_are_counted, promises_are_truthful};
 pub use meeting::meet_ends;
-pub use opened::{Opened, Script};
 pub use process::{Look, Process, ProcessParts};

@@ -1,36 +1,32 @@
-//! The process of a run: its ends of the rings, the playbacks of its tracks, its position, and the
-//! journal.
-ghost use Rattle.std.specs.Prelude.{◌≡◌, ◌≤◌, true, IfOk, IfErr, OnOk, OnErr};
+//! The process of a run: its input and its master, its ends of the rings, what it keeps of each
+//! track, its position, and the journal.
+ghost use Rattle.std.specs.Prelude.{◌≡◌, ◌≤◌, IfOk, IfErr, IfSome};
 ghost use Rattle.std.specs.List.{list_any};
-ghost use Rattle.session_model.specs.declared.session.Session.{Session as Opening};
-ghost use Rattle.engine_model.specs.PlainSession.{is_plain};
-ghost use Rattle.ses_io.specs.Outside.{Writes};
-ghost use Rattle.edition_log.specs.Entered.{Entered};
-ghost use Rattle.process_cycle.specs.Answers.{MayLook, Keeps, LookAnswers, LooksAtAll, rolled_by_now};
-ghost use Rattle.process_cycle.specs.Cycles.{Heard};
+ghost use Rattle.wav_codec.specs.Info.{IsFound};
 ghost use Rattle.process_cycle.specs.Ends.{AreNew};
-ghost use Rattle.process_cycle.specs.Made.{MayCycle, Cycles, HasBegun, Hears, IsNextEntry, done, header_bytes, next_block, silent_bytes};
-ghost use Rattle.process_cycle.specs.Playing.{IsPlaying};
+ghost use Rattle.process_cycle.specs.ProcessState.{Playing, entered};
+ghost use Rattle.process_cycle.specs.Promised.{IsMastered};
+ghost use Rattle.process_cycle.specs.Playing.{IsPlaying, HasBegun};
+ghost use Rattle.process_cycle.specs.Looked.{MayLook, HasLooked, Keeps, LookAnswers, LooksAtAll, rolled_by_now};
 
+mod cycle;
 mod parts;
 mod stores;
 
 use crate::ack_sender::AckSender;
-use crate::cycling::{CycleFault, ack_of, block_after, form_of};
 use crate::ends::ProcessEnds;
-use crate::noting::entry;
-use crate::play_position::PlayPosition;
-use crate::playback::TrackPlayback;
-use crate::playbacks::{any_closed, look_at_all};
-use crate::scratch::Scratch;
-use cycle_journal::{Entry, Journal};
+use cycle_journal::Journal;
 use edition_log::Edition;
+use input_blocks::InputBlocks;
+use master_blocks::MasterBlocks;
 pub use parts::ProcessParts;
-use ses_io::{Failed, Sink, write_all};
+use ses_io::{Sink, Source};
 use std::alloc::Global;
 use std::marker::Model;
 use stores::{Stores, new_stores};
-use wav_codec::WavForm;
+use track_capture::TrackCapture;
+use track_playback::{PlayPosition, TrackPlayback, any_closed, look_at_all};
+use wav_codec::WavInfo;
 
 /// What a look of all tracks found.
 #[derive(Clone, Copy, Debug, PartialEq, Eq)]
@@ -42,92 +38,110 @@ pub enum Look {
 }
 
 /// The process. Contracts see it as a record of `specs/ProcessState.antt`; `IsPlaying` says that it
-/// plays a session by these edits.
+/// plays a session by the edits that it was given, and what it promises of its rings and its
+/// journal.
 #[derive(Drop)]
-pub struct Process<W> {
-    master: W,
+pub struct Process<I: Source, W: Sink> {
+    input: InputBlocks<I>,
+    master: MasterBlocks<W>,
     ends: ProcessEnds,
     playbacks: Vec<TrackPlayback>,
+    captures: Vec<TrackCapture>,
     journal: Journal,
     depth: u32,
     generation: u32,
     next: u32,
-    form: WavForm,
-    scratch: Scratch,
     to_butler: AckSender,
     to_control: AckSender,
 }
 
-impl<W> Model for Process<W> {
-    ghost use Rattle.wav_codec.specs.Form.{written_form};
-    ghost use Rattle.process_cycle.specs.ProcessState.{ProcessState, KnowsTheEnds};
+impl<I: Source, W: Sink> Model for Process<I, W> {
+    ghost use Rattle.track_playback.specs.Played.{KnowsTheEnds};
+    ghost use Rattle.process_cycle.specs.ProcessState.{ProcessState};
 
-    ghost Value = { ProcessState W };
+    ghost Value = { ProcessState I W };
 
     ghost view = { λ p. record {
+      input = p.input;
       master = p.master;
       ends = p.ends;
       playbacks = p.playbacks.items;
+      captures = p.captures.items;
       journal = p.journal;
       depth = p.depth;
       generation = p.generation;
       next = p.next;
-      form = written_form p.form;
-      block = p.scratch;
     } };
 
     ghost invariant = { λ p. KnowsTheEnds p.ends.plays.items p.playbacks.items };
 }
 
-impl<W: Sink> Process<W> {
-    /// The process of a run that begins with this edition, with room for so many cycles,
-    /// 1..100,000. Err is want of memory, and gives the master back.
+impl<I: Source, W: Sink> Process<I, W> {
+    /// The process of a run that begins with this edition, which has no edit, with room for so many
+    /// cycles, 1..100,000. What the input has left is the data of `form` from frame 0 on; with no
+    /// form there is no input. Err is want of memory, and gives input and master back.
     pub fn new(
         alloc: Global,
         e: &Edition,
         cycles: u32,
+        input: I,
+        form: Option<WavInfo>,
         master: W,
         ends: ProcessEnds,
-    ) -> Result<Process<W>, W>
+    ) -> Result<Process<I, W>, (I, W)>
         requires ends { AreNew e.now.session ends }
+        requires form { IfSome form IsFound }
         requires cycles { cycles ≤ 100000 }
-        ensures begun { IfOk result (HasBegun e.now.session cycles master ends) }
-        ensures back { IfErr result (λ w. w ≡ master) }
+        ensures begun { IfOk result (HasBegun I.outside W.outside e.now.session cycles
+            input form master ends) }
+        ensures back { IfErr result (λ given. given ≡ (input, master)) }
     {
         let session = e.session();
         let Ok(stores) = new_stores(alloc, session, cycles) else {
-            return Err(master);
+            return Err((input, master));
+        };
+        let master = match MasterBlocks::new(alloc, session, master) {
+            Ok(blocks) => blocks,
+            Err(master) => return Err((input, master)),
+        };
+        let input = match InputBlocks::new(alloc, input, form, session.block) {
+            Ok(blocks) => blocks,
+            Err(input) => return Err((input, master.into_sink())),
         };
         let Stores {
             playbacks,
+            captures,
             journal,
-            scratch,
             to_butler,
             to_control,
         } = stores;
         Ok(Process {
+            input,
             master,
             ends,
             playbacks,
+            captures,
             journal,
             depth: session.depth,
             generation: 0,
             next: 0,
-            form: form_of(session),
-            scratch,
             to_butler,
             to_control,
         })
     }
 
-    /// One look of each track, in the newest edition. It takes no memory.
+    /// One look of each track, in an edition that goes on from the one given last. It takes no
+    /// memory, and waits for nobody.
     pub fn gather(&mut self, e: &Edition) -> Look
-        ghost at: { Entered }
-        requires { MayLook at self.old e.now }
-        ensures playing { IsPlaying at.session e.now.edits self.new }
+        ghost at: { Playing }
+        requires { MayLook I.outside at self.old e.now }
+        ensures playing { IsPlaying I.outside (entered e.now.edits at) self.new }
+        ensures looked { HasLooked (entered e.now.edits at) self.new }
         ensures looks { LooksAtAll e.now self.old self.new }
         ensures answer { LookAnswers e.now.transport.rolling self.old result self.new }
         ensures keeps { Keeps self.old self.new }
+        ensures master { IsMastered W.outside at self.old
+            → IsMastered W.outside (entered e.now.edits at) self.new }
     {
         let transport = e.transport();
         let at = PlayPosition {
@@ -158,78 +172,6 @@ impl<W: Sink> Process<W> {
         } else {
             0
         }
-    }
-
-    /// Writes the header of the master, for all cycles that are asked for. It takes no memory.
-    pub fn begin(&mut self) -> Result<(), CycleFault>
-        ghost at: { Entered }
-        requires plain { is_plain at.session ≡ true }
-        requires playing { IsPlaying at.session at.edits self.old }
-        ensures writes { Writes W.outside (header_bytes self.old)
-            self.old.master self.new.master result }
-        ensures same { self.new ≡ record self.old { master = self.new.master } }
-        ensures playing { IsPlaying at.session at.edits self.new }
-    {
-        let frames = u64::from(self.journal.room()) * u64::from(self.scratch.block());
-        let head = wav_codec::header(&self.form, frames);
-        write_all(&mut self.master, &head)?;
-        Ok(())
-    }
-
-    /// One cycle in the newest edition, after a look: its block is written to the master, its entry
-    /// noted, and butler and control are told. It takes no memory.
-    pub fn cycle(&mut self, e: &Edition) -> Result<(), CycleFault>
-        ghost s: { Opening }
-        requires { MayCycle s e.now self.old }
-        ensures cycles { OnOk result (Cycles s e.now self.old self.new) }
-        ensures writes { Writes W.outside (next_block s e.now self.old)
-            self.old.master self.new.master result }
-        ensures playing { IsPlaying s e.now.edits self.new }
-        ensures fault { OnErr result (self.new ≡ record self.old { master = self.new.master }) }
-    {
-        let made = self.play(e)?;
-        self.next = block_after(made.state, self.next);
-        let settled = made.settled;
-        self.journal.note(made);
-        let ack = ack_of(&self.journal, self.generation, self.next, settled);
-        self.to_butler.send(&mut self.ends.to_butler, ack);
-        self.to_control.send(&mut self.ends.to_control, ack);
-        Ok(())
-    }
-
-    // Writes the next block to the master, and gives the entry that is to be noted of it.
-    fn play(&mut self, e: &Edition) -> Result<Entry, Failed>
-        ghost heard: { Heard }
-        requires may { MayCycle heard.session e.now self.old }
-        requires heard { Hears heard e.now self.old }
-        ensures entry { IfOk result (IsNextEntry heard.session e.now self.old) }
-        ensures writes { Writes W.outside (next_block heard.session e.now self.old)
-            self.old.master self.new.master (done result) }
-        ensures same { self.new ≡ record self.old { master = self.new.master } }
-    {
-        let at = PlayPosition {
-            depth: self.depth,
-            generation: self.generation,
-            next: self.next,
-        };
-        let made = entry(&self.playbacks, e.number(), e.transport().rolling, at);
-        self.scratch
-            .write(&self.playbacks, made.state, at, &mut self.master)?;
-        Ok(made)
-    }
-
-    /// Writes silence for the cycles that were asked for and not made. It takes no memory.
-    pub fn silence(&mut self) -> Result<(), CycleFault>
-        ghost at: { Entered }
-        ensures writes { Writes W.outside (silent_bytes self.old)
-            self.old.master self.new.master result }
-        ensures same { self.new ≡ record self.old { master = self.new.master } }
-        ensures playing { IsPlaying at.session at.edits self.old
-            → IsPlaying at.session at.edits self.new }
-    {
-        let missing = self.journal.room() - self.journal.entries().len() as u32;
-        self.scratch.silence(missing, &mut self.master)?;
-        Ok(())
     }
 
     /// The entries made so far.

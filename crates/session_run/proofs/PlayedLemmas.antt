@@ -18,8 +18,8 @@ use Rattle.cycle_journal.specs.declared.status.Status.{Status}
 use Rattle.cycle_journal.specs.declared.status.Status.TheVariants.{Done, MasterFault, ReadFault}
 use Rattle.cycle_journal.specs.JournalView.{seen_entries}
 use Rattle.disk_ring.specs.Rings.{Whole}
-use Rattle.process_cycle.specs.declared.finished.Finished.{Finished}
-use Rattle.process_cycle.specs.declared.finished.TrackRings.{TrackRings}
+use Rattle.plain_process.specs.declared.finished.Finished.{Finished}
+use Rattle.plain_process.specs.declared.finished.TrackRings.{TrackRings}
 use Rattle.engine_core.specs.Events.{KeepsTheRest, IsPlayedOut, journal_of}
 use Rattle.engine_core.specs.Passed.{AllGenuine, AllStayOpen, PassedOn}
 use Rattle.engine_core.specs.Serial.{IsCounted}

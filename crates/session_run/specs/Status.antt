@@ -9,7 +9,7 @@ use Rattle.cycle_journal.specs.declared.status.Status.{Status}
 use Rattle.cycle_journal.specs.declared.status.Status.TheVariants.{Done, Usage, Session, SourceFile, ReadFault, WriteFault, InputFault, MasterFault, ControlFault, OutFault, NoMemory, ControlTooLong, NotBuilt}
 use Rattle.master_render.specs.declared.fault.RenderFault.{RenderFault}
 use Rattle.master_render.specs.declared.fault.RenderFault.TheVariants as fault
-use Rattle.process_cycle.specs.declared.finished.Faults.{Faults}
+use Rattle.plain_process.specs.declared.finished.Faults.{Faults}
 use Rattle.session_opening.specs.declared.no_session.NoSession.{NoSession}
 use Rattle.session_opening.specs.declared.unopened.Unopened.{Unopened}
 use Rattle.session_opening.specs.declared.unopened.Unopened.TheVariants as unopened

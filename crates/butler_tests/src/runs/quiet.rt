@@ -38,7 +38,6 @@ pub(crate) const FULL: Run = Run {
         Step::Piece(0, 0, 1, &[768, 1024]),
         Step::Closed(0),
     ],
-    left: &[],
 };
 
 // Ten tracks, ten more, and ten more.
@@ -83,6 +82,5 @@ pub(crate) const RUNS: &[Run] = &[
             Step::Pass(29, 7),
             Step::Nothing(29),
         ],
-        left: &[],
     },
 ];

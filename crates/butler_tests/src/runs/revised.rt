@@ -55,7 +55,6 @@ pub(crate) const RUNS: &[Run] = &[
             Step::Turn(100, Turn::Idle),
             Step::Nothing(0),
         ],
-        left: &[],
     },
     // two edits in a row revise each place once, and none that was passed
     Run {
@@ -83,6 +82,5 @@ pub(crate) const RUNS: &[Run] = &[
             Step::Revised(0, 0, 10, 2, &[0, 0]),
             Step::Turn(100, Turn::Idle),
         ],
-        left: &[],
     },
 ];

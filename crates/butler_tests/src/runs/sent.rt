@@ -85,7 +85,6 @@ pub(crate) const RUNS: &[Run] = &[
             Step::Mark(2, 0, 0, 0),
             Step::Piece(2, 0, 0, &[0, 0]),
         ],
-        left: &[],
     },
     // a ring of eight gets seven pieces behind its mark
     Run {
@@ -105,7 +104,6 @@ pub(crate) const RUNS: &[Run] = &[
             Step::Piece(1, 0, 2, &[768, 1024]),
             Step::Piece(1, 0, 3, &[0, 0]),
         ],
-        left: &[],
     },
     // after a locate its mark and its places follow
     Run {
@@ -133,7 +131,6 @@ pub(crate) const RUNS: &[Run] = &[
             Step::Piece(0, 1, 1, &[0, 0]),
             Step::Nothing(0),
         ],
-        left: &[],
     },
     // no block is sent past the asked cycles
     Run {
@@ -157,7 +154,6 @@ pub(crate) const RUNS: &[Run] = &[
             Step::Mark(2, 1, 0, 3),
             Step::Nothing(2),
         ],
-        left: &[],
     },
     // a thousand turns each send or find nothing to send: the first sends six, and each that follows a taking three
     Run {
@@ -166,7 +162,6 @@ pub(crate) const RUNS: &[Run] = &[
         fails: Fails::Nothing,
         cycles: 100_000,
         steps: &[Step::Turns(1000, 6 + 499 * 3, 500)],
-        left: &[],
     },
     // silence stands around a region within a block, which its first frame may cut
     Run {
@@ -182,7 +177,6 @@ pub(crate) const RUNS: &[Run] = &[
             Step::Piece(0, 1, 1, &[327_680, 0, 0, 0]),
             Step::Piece(0, 1, 2, &[0, 0, 0, 0]),
         ],
-        left: &[],
     },
     // a region past its source is silent there
     Run {
@@ -196,6 +190,5 @@ pub(crate) const RUNS: &[Run] = &[
             Step::Piece(1, 0, 0, &[0, 327_680, 393_216, 0]),
             Step::Piece(1, 0, 1, &[0, 0, 0, 0]),
         ],
-        left: &[],
     },
 ];

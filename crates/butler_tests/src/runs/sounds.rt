@@ -56,7 +56,6 @@ pub(crate) const RUNS: &[Run] = &[
             Step::Piece(0, 1, 0, &[512, 768, 512, 768]),
             Step::Piece(0, 1, 1, &[512, 768, 512, 768]),
         ],
-        left: &[],
     },
     // a locate to the region's last frames, and one past it
     Run {
@@ -75,7 +74,6 @@ pub(crate) const RUNS: &[Run] = &[
             Step::Mark(0, 2, 2, 0),
             Step::Piece(0, 2, 0, &[0, 0, 0, 0]),
         ],
-        left: &[],
     },
     // two channels side by side, sample for sample
     Run {
@@ -90,7 +88,6 @@ pub(crate) const RUNS: &[Run] = &[
             Step::Piece(0, 0, 1, &[-1000, 70_000, 0, 0]),
             Step::Piece(0, 0, 2, &[0, 0, 0, 0]),
         ],
-        left: &[],
     },
     // a transparent region that fades in is added to the one below it
     Run {
@@ -105,6 +102,5 @@ pub(crate) const RUNS: &[Run] = &[
             Step::Piece(0, 0, 1, &[4608, 5120, 5632, 6144]),
             Step::Piece(0, 0, 2, &[0, 0, 0, 0]),
         ],
-        left: &[],
     },
 ];

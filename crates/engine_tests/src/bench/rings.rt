@@ -1,11 +1,11 @@
 //! New rings, and their ends as the workers take them.
 ghost use Rattle.std.specs.Prelude.{◌≡◌, ◌<◌, length, All, IfOk};
-ghost use Rattle.process_cycle.specs.Ends.{IsNewIn, IsNewOut};
+ghost use Rattle.plain_process.specs.Ends.{IsNewIn, IsNewOut};
 ghost use Rattle.engine_tests.specs.Bench.{AreTwoEnds};
 
 use disk_ring::{RingIn, RingInList, RingOut, RingOutList, Roomy, ring};
 use piece_item::{Ack, Item, TakeBlock};
-use process_cycle::ProcessEnds;
+use plain_process::ProcessEnds;
 use ses_io::NoMemory;
 use std::alloc::Global;
 

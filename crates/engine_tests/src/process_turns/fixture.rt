@@ -11,7 +11,7 @@ use cycle_journal::{Note, Play, State, Take};
 use disk_ring::RingIn;
 use edition_log::Edition;
 use piece_item::{Item, Kind};
-use process_cycle::{Look, Process, ProcessParts};
+use plain_process::{Look, Process, ProcessParts};
 use ses_io::{NoMemory, Sink};
 use session_model::Edit;
 use std::alloc::Global;

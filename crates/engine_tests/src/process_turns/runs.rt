@@ -1,6 +1,6 @@
 //! Runs with their steps: what a process of two tracks answers, as it was worked out.
 use cycle_journal::{Play, State};
-use process_cycle::Look;
+use plain_process::Look;
 
 /// A step of a run, with what it has to answer.
 pub(crate) enum Step {

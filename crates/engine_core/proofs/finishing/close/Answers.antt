@@ -6,8 +6,8 @@ use Rattle.ses_io.specs.FixedList.{Listed}
 use Rattle.cycle_journal.specs.declared.entry.Entry.{Entry as Noted}
 use Rattle.cycle_journal.specs.JournalView.{seen_entries}
 use Rattle.edition_log.specs.EditionState.{EditionState as Edition}
-use Rattle.process_cycle.specs.Ends.{shut}
-use Rattle.process_cycle.specs.declared.ends.ProcessEnds.{ProcessEnds}
+use Rattle.plain_process.specs.Ends.{shut}
+use Rattle.plain_process.specs.declared.ends.ProcessEnds.{ProcessEnds}
 use Rattle.engine_core.specs.Running.{IsTrueOfAll, noted}
 use Rattle.engine_core.specs.Serial.{AreOpen}
 use Rattle.engine_core.proofs.FinishLemmas as finish

@@ -1,6 +1,6 @@
 use Rattle.std.proofs.Common.{◌≡◌, ◌*◌, sym, ap, arith, ◌∙◌}
 use Rattle.std.specs.Prelude.{slice_index_or}
-use Rattle.process_cycle.specs.Ends.{block_of}
+use Rattle.plain_process.specs.Ends.{block_of}
 use Rattle.engine_core.proofs.RingLemmas.{channels_here, pushed}
 use Rattle.engine_core.proofs.rings.new_track_ends.Goals as goal
 

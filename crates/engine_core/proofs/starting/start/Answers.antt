@@ -1,5 +1,5 @@
 use Rattle.std.proofs.Common.{refl, sym, subst}
-use Rattle.process_cycle.specs.declared.finished.Faults.{Faults}
+use Rattle.plain_process.specs.declared.finished.Faults.{Faults}
 use Rattle.engine_core.specs.Starting.{HasStarted, ends_of}
 use Rattle.engine_core.proofs.StartLemmas as begin
 use Rattle.engine_core.proofs.starting.start.Goals as goal

@@ -1,5 +1,5 @@
 use Rattle.std.proofs.Common.{◌≡◌, refl, sym, ap, subst, ◌∙◌, arith}
-use Rattle.process_cycle.specs.Ends.{EndsMeet}
+use Rattle.plain_process.specs.Ends.{EndsMeet}
 use Rattle.plain_butler.specs.ButlerState.{ButlerState as Butler, resumed}
 use Rattle.plain_butler.specs.Serving.{AreStocked, IsServing}
 use Rattle.engine_core.specs.RunInvariant.{SendsBy}

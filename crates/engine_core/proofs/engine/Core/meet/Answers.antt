@@ -1,6 +1,6 @@
 use Rattle.std.proofs.Common.{◌≡◌, sym, ap, subst, ◌∙◌}
-use Rattle.process_cycle.specs.Ends.{EndsMeet}
-use Rattle.process_cycle.specs.Playing.{IsPlaying}
+use Rattle.plain_process.specs.Ends.{EndsMeet}
+use Rattle.plain_process.specs.Playing.{IsPlaying}
 use Rattle.plain_butler.specs.ButlerState.{rested, resumed}
 use Rattle.plain_butler.specs.Serving.{AreStocked}
 use Rattle.plain_butler.proofs.MeetingLemmas.{meeting_keeps}

@@ -1,4 +1,4 @@
-use Rattle.process_cycle.specs.Made.{header_bytes}
+use Rattle.plain_process.specs.Made.{header_bytes}
 use Rattle.engine_core.proofs.PerformLemmas as perform
 use Rattle.engine_core.proofs.RunningLemmas as running
 use Rattle.engine_core.proofs.serial.Run.begin.Goals as goal

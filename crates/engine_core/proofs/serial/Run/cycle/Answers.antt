@@ -1,7 +1,7 @@
 use Rattle.std.proofs.Common.{◌≡◌, ◌+◌, ◌<◌, length, sym, ap, subst, ◌∙◌, arith}
 use Rattle.ses_io.specs.FixedList.{Listed}
 use Rattle.cycle_journal.specs.declared.entry.Entry.{Entry as Noted}
-use Rattle.process_cycle.specs.declared.finished.Faults.{Faults}
+use Rattle.plain_process.specs.declared.finished.Faults.{Faults}
 use Rattle.engine_core.specs.Plainly.{RunsPlainly, HasReceived, HasServedAll}
 use Rattle.engine_core.specs.Serial.{AreOpen, IsCounted}
 use Rattle.engine_core.specs.Written.{IsCut, HoldsAllEntries}

@@ -1,7 +1,7 @@
 use Rattle.std.proofs.Common.{◌≡◌, List, length, refl, ap, arith}
 use Rattle.std.specs.Prelude.{false}
 use Rattle.cycle_journal.specs.declared.entry.Entry.{Entry as Noted}
-use Rattle.process_cycle.specs.Made.{header_bytes, silent_bytes}
+use Rattle.plain_process.specs.Made.{header_bytes, silent_bytes}
 use Rattle.engine_core.proofs.PerformLemmas as perform
 use Rattle.engine_core.proofs.SerialLemmas as serial
 use Rattle.engine_core.proofs.serial.Run.perform.Goals as goal

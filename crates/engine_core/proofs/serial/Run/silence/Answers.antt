@@ -1,4 +1,4 @@
-use Rattle.process_cycle.specs.Made.{silent_bytes}
+use Rattle.plain_process.specs.Made.{silent_bytes}
 use Rattle.engine_core.proofs.PerformLemmas as perform
 use Rattle.engine_core.proofs.RunningLemmas as running
 use Rattle.engine_core.proofs.serial.Run.silence.Goals as goal

@@ -1,6 +1,6 @@
 use Rattle.std.proofs.Common.{ap, ◌∙◌}
 use Rattle.std.specs.List.{list_any}
-use Rattle.process_cycle.proofs.PlayingLemmas.{any_ended}
+use Rattle.process_cycle.proofs.ClosedLemmas.{any_ended}
 use Rattle.process_cycle.proofs.process.Process.closed.Goals as goal
 
 pub returns : goal.returns

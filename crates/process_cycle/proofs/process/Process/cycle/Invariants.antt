@@ -1,4 +1,5 @@
+use Rattle.process_cycle.specs.ProcessState.{entries_of}
 use Rattle.process_cycle.proofs.process.Process.cycle.Given as goal
 
-abbrev pub ghost-play : goal.ghost-play
-ghost-play g a = record { session = g.s; edits = a.e.now.edits; plays = a.self.now.ends.plays.items }
+abbrev pub ghost-make : goal.ghost-make
+ghost-make g a = record { at = g.at; plays = a.self.now.ends.plays.items; entries = entries_of a.self.now }

@@ -1,0 +1,3 @@
+-- Why a butler on a bench may begin and go on.
+mod BenchLemmas
+mod RingLemmas

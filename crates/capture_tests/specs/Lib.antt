@@ -1,0 +1,2 @@
+-- What is so of a butler on a bench.
+pub mod Bench

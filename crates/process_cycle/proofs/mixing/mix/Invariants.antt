@@ -1,4 +1,0 @@
-use Rattle.process_cycle.proofs.mixing.mix.Given as goal
-
-abbrev pub ghost-sum_up : goal.ghost-sum_up
-ghost-sum_up g a = g.heard.plays

@@ -1,4 +1,0 @@
-use Rattle.process_cycle.proofs.noting.state.Given as goal
-
-abbrev pub ghost-waiting : goal.ghost-waiting
-ghost-waiting g a = g.plays
