@@ -11,7 +11,7 @@ use Rattle.session_model.specs.Valid.{IsValid}
 use Rattle.engine_model.specs.Items.{Kind}
 use Rattle.engine_model.specs.Edits.{playlist_edition, generation}
 use Rattle.engine_model.specs.Due.{Ack, next_block, due, due_after}
-use Rattle.engine_laws.proofs.PlainSessionLemmas.{item_at}
+use Rattle.engine_laws.proofs.ListLemmas.{item_at}
 use Rattle.machine_model.specs.Core.{TrackState, Core}
 use Rattle.machine_model.specs.Events as machine
 use Rattle.machine_model.specs.Events.{Event, Send, Flush, can}

@@ -13,6 +13,8 @@ mod turning;
 
 pub use butler::Butler;
 pub use faults::ButlerFault;
-pub use laws::{a_turn_of_one_is_one_move, meeting_keeps, sources_are_no_takes};
+pub use laws::{
+    a_turn_of_one_is_one_move, meeting_keeps, sources_are_no_takes, the_move_is_the_core_machines,
+};
 pub use resting::{ButlerParts, Resting};
 pub use turning::Turn;

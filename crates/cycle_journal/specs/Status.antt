@@ -1,7 +1,7 @@
 -- The number that the program ends with (own).
 use Rattle.std.specs.Prelude.{ℕ}
 use Rattle.cycle_journal.specs.declared.status.Status.{Status}
-use Rattle.cycle_journal.specs.declared.status.Status.TheVariants.{Done, Usage, Session, SourceFile, ReadFault, WriteFault, InputFault, MasterFault, ControlFault, OutFault, Refuted, BadReport, BadInput, NoMemory, TakesExist, ControlTooLong, NotBuilt}
+use Rattle.cycle_journal.specs.declared.status.Status.TheVariants.{Done, Usage, Session, SourceFile, ReadFault, WriteFault, InputFault, MasterFault, ControlFault, OutFault, Refuted, BadReport, BadInput, NoMemory, TakesExist, ControlTooLong}
 
 abbrev pub number_of : Status → ℕ
 number_of Done = 0
@@ -20,4 +20,3 @@ number_of (BadInput why) = 12
 number_of NoMemory = 13
 number_of (TakesExist takes) = 14
 number_of ControlTooLong = 17
-number_of NotBuilt = 20

@@ -53,8 +53,6 @@ pub enum Status {
     TakesExist(Name),
     /// Control gave 16,777,216 bytes, and no accepted `quit` stood in them: 17.
     ControlTooLong,
-    /// The session is valid, and isn't of the plain form that is built so far: 20.
-    NotBuilt,
 }
 
 impl Status {
@@ -79,7 +77,6 @@ impl Status {
             Status::NoMemory => 13,
             Status::TakesExist(_) => 14,
             Status::ControlTooLong => 17,
-            Status::NotBuilt => 20,
         }
     }
 }

@@ -1,17 +1,18 @@
 -- What the answers of several turns say together, how much is left to do, and what has failed by an answer.
-use Rattle.std.proofs.Common.{◌≡◌, ℕ, ◌+◌, ◌-◌, ◌*◌, ◌<◌, ◌≤◌, List, length, refl, sym, subst, arith, ◌∙◌}
+use Rattle.std.proofs.Common.{◌≡◌, ℕ, ◌+◌, ◌-◌, ◌*◌, ◌^◌, ◌<◌, ◌≤◌, List, length, refl, sym, subst, arith, ◌∙◌}
 use Rattle.std.specs.Prelude.{Bool, true, false, if◌then◌else◌, is_err, Result, Ok, Err, IfOk, OnOk, OnErr}
 use Rattle.std.proofs.lemmas.Bool.{true≢false}
 use Rattle.ses_io.specs.Faults.{HasCause, risen}
 use Rattle.disk_ring.specs.Sender.{Sender}
 use Rattle.piece_item.specs.declared.item.Item.{Item}
-use Rattle.plain_butler.specs.declared.turning.Turn.{Turn}
-use Rattle.plain_butler.specs.declared.turning.Turn.TheVariants.{Moved, Idle}
-use Rattle.plain_butler.specs.declared.faults.ButlerFault.{ButlerFault}
-use Rattle.plain_butler.specs.Turns.{total_sent}
+use Rattle.butler.specs.declared.turning.Turn.{Turn}
+use Rattle.butler.specs.declared.turning.Turn.TheVariants.{Moved, Idle}
+use Rattle.butler.specs.declared.faults.ButlerFault.{ButlerFault}
+use Rattle.butler.specs.declared.faults.ButlerFault.TheVariants.{ReadFault, WriteFault}
+use Rattle.butler.specs.Faults.{Counts, is_read_fault, is_write_fault}
+use Rattle.read_ahead.specs.AllServes.{total_sent}
 use Rattle.engine_core.specs.Answers.{is_idle, with_fault}
-use Rattle.engine_core.specs.Serial.{IsCounted}
-use Rattle.engine_core.proofs.SendsLemmas.{most}
+use Rattle.engine_core.specs.Asked.{IsCounted}
 
 -- what holds where no turn has failed
 pub ok_on : (did : Result Turn ButlerFault) (before : Result Unit ButlerFault) (A B : Type 0) → OnOk before A → (A → OnOk did B) → OnOk (with_fault did before) B
@@ -40,6 +41,9 @@ caused_on (Ok turn) before first mid last was now = subst (λ n. HasCause first 
 caused_on (Err fault) before first mid last was now = record { later = omega (arith, was.later, now.later); kept = tt; rose = omega (arith, now.rose, was.later) }
 
 -- ---- how much is left to do, at most: no ring takes more than 2^62 items, and once a read has failed each turn is Idle
+
+abbrev most : ℕ
+most = 2 ^ 62
 
 abbrev pub left_to_do : List (Sender Item) → Bool → ℕ
 left_to_do sends failed = (length sends * most + 1 - total_sent sends) * 2 + (if failed then 0 else 1)
@@ -105,3 +109,23 @@ module _ {T E : Type 0} (answer : Result T E) (was now : Bool) (is : now ≡ (if
       kept = λ not. absurd (true≢false (sym is ∙ not));
       raised = λ yes. omega (arith, rose, counted.later);
     }
+
+-- ---- a turn
+
+-- what a turn says of its count is a cause of its answer: no write failed
+pub cause_of : (before now : ℕ) (did : Result Turn ButlerFault) → is_write_fault did ≡ false → Counts (is_read_fault did) before now → HasCause before now did
+cause_of before now (Ok turn) fine counts = record { later = omega (arith, counts); kept = counts; rose = tt }
+cause_of before now (Err ReadFault) fine counts = record { later = counts.later; kept = tt; rose = counts.rose }
+cause_of before now (Err WriteFault) fine counts = absurd (true≢false fine)
+
+-- a read fault is all that a turn may answer
+pub fails_by : (did : Result Turn ButlerFault) (was now : Bool) → is_write_fault did ≡ false → now ≡ (if is_read_fault did then true else was) → now ≡ (if is_err did then true else was)
+fails_by (Ok turn) was now fine is = is
+fails_by (Err ReadFault) was now fine is = is
+fails_by (Err WriteFault) was now fine is = absurd (true≢false fine)
+
+-- over several turns
+pub fails_on : (did : Result Turn ButlerFault) (before : Result Unit ButlerFault) (first was now : Bool) → was ≡ (if is_err before then true else first) → now ≡ (if is_err did then true else was) →
+    now ≡ (if is_err (with_fault did before) then true else first)
+fails_on (Ok turn) before first was now old is = is ∙ old
+fails_on (Err fault) before first was now old is = is

@@ -1,219 +1,163 @@
--- A cycle of the process, after a look and a meeting, keeps the engine running.
-use Rattle.std.proofs.Common.{◌≡◌, ℕ, zero, suc, ◌+◌, ◌<◌, ◌≤◌, List, [], ◌∷◌, ◌++◌, length, refl, sym, ap, subst, ◌∙◌, inl, inr, arith}
-use Rattle.std.specs.Prelude.{Bool, true, false, ◌==◌, if◌then◌else◌, max, map, reverse, slice_get, Some, Result, Ok, Err, OnOk, OnErr}
-use Rattle.std.proofs.lemmas.List.{length_push, length-map, length-reverse, map-append, reverse-append, reverse-reverse}
-use Rattle.std.proofs.lemmas.Option.{same_Some, slice_get_within}
+-- What a serial cycle leaves of an export.
+use Rattle.std.proofs.Common.{◌≡◌, ℕ, ◌+◌, ◌≤◌, inl, inr, List, ◌++◌, length, sym, ap, subst, ◌∙◌, arith}
+use Rattle.std.specs.Prelude.{Bool, map, replicate, Result, Ok, Err, OnOk, OnErr}
+use Rattle.std.proofs.lemmas.List.{length-map, length-replicate}
+use Rattle.std.proofs.lemmas.Simd.{map-map}
+use Rattle.sound_model.specs.Wav.{sound_bytes}
+use Rattle.ses_units.specs.Bits.{bits_of}
+use Rattle.ses_io.specs.Faults.{HasCause}
+use Rattle.ses_io.specs.Outside.{MediaOutside, SourceOutside, SinkOutside, OnlyReads}
+use Rattle.ses_io.specs.Streams.{AppendsSome}
 use Rattle.session_model.specs.declared.session.Session.{Session}
 use Rattle.session_model.specs.declared.edit.Edit.{Edit}
-use Rattle.engine_model.specs.Edits.{generation, has_quit}
+use Rattle.session_model.specs.Valid.{IsValid}
 use Rattle.engine_model.specs.Editions.{edition}
+use Rattle.engine_model.specs.Edits.{generation}
+use Rattle.engine_model.specs.Items as engine
 use Rattle.engine_model.specs.Items.{Kind}
-use Rattle.engine_model.specs.Journal.{Entry, rolled, is_rolling_in}
-use Rattle.engine_model.specs.Due.{next_block}
-use Rattle.engine_model.specs.Plain.{plain_cycles, plain_entry}
-use Rattle.engine_laws.specs.JournalInvariant.{JournalInvariant, Receives}
-use Rattle.engine_laws.specs.TruthLaws.{TruthStands, HasLooked}
-use Rattle.engine_laws.specs.SerialLaws.{IsReady}
-use Rattle.engine_laws.proofs.SerialLemmas.{ready_entry_is_plain}
-use Rattle.engine_laws.proofs.EntryLemmas.{stands_with_its_entry}
-use Rattle.engine_laws.proofs.TruthLemmas.{truth_stands_with_its_entry}
-use Rattle.edition_log.proofs.PlayLaws.{editions_play_their_places}
-use Rattle.disk_ring.specs.Sender.{Sender}
-use Rattle.disk_ring.specs.Receiver.{Receiver}
-use Rattle.ses_io.specs.FixedList.{Listed}
-use Rattle.piece_item.specs.declared.ack.Ack.{Ack as Acknowledgement}
-use Rattle.piece_item.specs.Views.{ack_of as engine_ack}
-use Rattle.piece_item.specs.declared.item.Item.{Item}
-use Rattle.cycle_journal.specs.declared.entry.Entry.{Entry as Noted}
-use Rattle.cycle_journal.specs.JournalView.{seen_entries, seen_entry}
-use Rattle.plain_process.specs.declared.cycling.CycleFault.{CycleFault}
-use Rattle.plain_process.specs.Ends.{AreOfOneRing}
-use Rattle.plain_process.specs.SpareBoxes.{received_kinds}
-use Rattle.plain_process.specs.Made.{Acknowledges, Cycles, MayCycle, ack_of, next_entry}
-use Rattle.plain_process.specs.Playing.{IsPlaying}
-use Rattle.plain_process.specs.ProcessState.{ProcessState as Process, entries_of}
-use Rattle.plain_butler.specs.Sends.{acks_of, kinds}
-use Rattle.plain_butler.proofs.TableLemmas.{next_more}
-use Rattle.engine_core.specs.declared.engine.Core.{Core}
-use Rattle.engine_core.specs.Running.{Runs, HasMet, HasLookedAround, IsTrueOfAll, received, noted}
-use Rattle.engine_core.specs.Plainly.{RunsPlainly, HasTaken, HasReceived, IsIdle, AreReady, generation_now, next_now}
-use Rattle.engine_core.proofs.MeetLemmas.{item_at, kinds_turned, mapped_at}
-use Rattle.engine_core.proofs.PlainSendsLemmas.{has_room}
-use Rattle.engine_core.proofs.PlainTurnLemmas.{all_taken}
+use Rattle.engine_model.specs.Journal.{Off, Entry, rolled}
+use Rattle.engine_model.specs.Cycle.{entry_of, state_of}
+use Rattle.engine_model.specs.Mixed.{mixed_in}
+use Rattle.engine_model.specs.Played.{Samples}
+use Rattle.engine_laws.specs.PlayedLaws.{GenuinePiecesMakeTheBlock}
+use Rattle.cycle_journal.specs.JournalView.{seen_entries}
+use Rattle.track_playback.specs.SpareBoxes.{received_items}
+use Rattle.master_blocks.specs.Bytes.{entry_bytes}
+use Rattle.butler.specs.ButlerState.{ButlerState}
+use Rattle.process_cycle.specs.declared.fault.CycleFault.{CycleFault}
+use Rattle.process_cycle.specs.declared.fault.CycleFault.TheVariants.{InputFault, MasterFault}
+use Rattle.process_cycle.specs.ProcessState.{ProcessState, entries_of, items_of, kinds_of}
+use Rattle.process_cycle.specs.Cycles.{CycleWrites, next_bytes, next_state}
+use Rattle.process_cycle.specs.Promised.{AllOfTrack}
+use Rattle.run_world.specs.declared.finished.Faults.{Faults}
+use Rattle.engine_pair.specs.declared.pair.Pair.{Pair}
+use Rattle.engine_pair.specs.Begun.{At}
+use Rattle.engine_pair.specs.Runs.{Runs}
+use Rattle.engine_pair.specs.Plays.{CountsInput, Cycles, StopsOnly}
+use Rattle.engine_core.specs.Asked.{Asked, Keeps, only_noted}
+use Rattle.engine_core.specs.Control.{IsControlled}
+use Rattle.engine_core.specs.RunInvariant.{IsOf}
+use Rattle.engine_core.specs.Written.{IsCutOff, bytes_made}
+use Rattle.engine_core.proofs.ServeLemmas.{reads_on}
 
--- an acknowledgement leaves the ring
-same_ring : (ack : Acknowledgement) (a b : Sender Acknowledgement) → Acknowledges ack a b → b.ring ≡ a.ring
-same_ring ack a b (inl puts) = ap (λ (z : Sender Acknowledgement). z.ring) puts.1.sent
-same_ring ack a b (inr refuses) = ap (λ (z : Sender Acknowledgement). z.ring) refuses.1.heads
+-- ---- what a pair has of an export
 
--- ---- another master
-
-abbrev pub given : {V W : Type 0} → Core V W → W → Core V W
-given c m = record c { process = record c.process { master = m } }
-
-module _ {V W : Type 0} (s : Session) (c : Core V W) (m : W) where
-  pub runs_given : Runs s c → IsPlaying s c.edition.edits (record c.process { master = m }) → Runs s (given c m)
-  runs_given r playing = record {
-    edition_of = r.edition_of;
-    recording = r.recording;
-    quit = r.quit;
-    serving = r.serving;
-    playing = playing;
-    ends = r.ends;
-    control = r.control;
-    asked = r.asked;
-    before = r.before;
-    journal_invariant = r.journal_invariant;
-    receives = r.receives;
-    truth = r.truth;
+module _ {V I W : Type 0} (media : MediaOutside V) (on : Asked V I) where
+  pub is_of_kept : (p q : Pair V I W) → Keeps media p q → IsOf media on p → IsOf media on q
+  is_of_kept p q keeps is = record {
+    controlled = subst (IsControlled on.begun.session on.from) (sym keeps.edition) is.controlled;
+    cycles = keeps.cycles ∙ is.cycles;
+    opened = keeps.opened ∙ is.opened;
+    only_reads = reads_on media is.only_reads keeps.only_reads;
+    frames = ap (λ z. z.stream.frames) keeps.input ∙ is.frames;
+    input = ap (λ z. z.input) keeps.input ∙ is.input;
   }
 
-module _ {V W : Type 0} (s : Session) (c : Core V W) (has : HasMet s c) (looked : HasLookedAround s c) where
-  pub may_cycle : length c.process.journal.items < c.process.journal.room → MayCycle s c.edition c.process
-  may_cycle room = record {
-    plain = has.runs.serving.plain;
-    playing = has.runs.playing;
-    edition = has.runs.edition_of;
-    looked = looked.still_held;
-    room = room;
-    recording = has.runs.recording;
-    quit = has.runs.quit;
+  is_of_by : (p q : Pair V I W) → q.edition ≡ p.edition → q.butler ≡ record p.butler { ends = q.butler.ends } → q.process.input.stream ≡ p.process.input.stream →
+      (p.process.input.stream.frames ≡ 0 → q.process.input.input ≡ p.process.input.input) → IsOf media on p → IsOf media on q
+  is_of_by p q same butler stream ended is = record {
+    controlled = subst (IsControlled on.begun.session on.from) (sym same) is.controlled;
+    cycles = ap (λ (b : ButlerState V). b.cycles) butler ∙ is.cycles;
+    opened = ap (λ (b : ButlerState V). b.sources.opened) butler ∙ is.opened;
+    only_reads = subst (OnlyReads media on.media) (sym (ap (λ (b : ButlerState V). b.media) butler)) is.only_reads;
+    frames = ap (λ z. z.frames) stream ∙ is.frames;
+    input = ended is.frames ∙ is.input;
   }
 
-  not_recording : (edition s c.edition.edits (length c.edition.edits)).transport.recording ≡ false
-  not_recording = sym (ap (λ e. e.transport.recording) has.runs.edition_of.edition_of.state) ∙ has.runs.recording
+  pub is_of_cycled : (p q : Pair V I W) (answer : Result (Unit {0}) CycleFault) → OnOk answer (Cycles p q) → OnErr answer (StopsOnly p q) → IsOf media on p → IsOf media on q
+  is_of_cycled p q (Ok u) cycles stops is = is_of_by p q cycles.edition cycles.butler cycles.stream cycles.ended is
+  is_of_cycled p q (Err why) cycles stops is = is_of_by p q stops.edition stops.butler stops.stream stops.ended is
 
-  not_quit : has_quit c.edition.edits (length c.edition.edits) ≡ false
-  not_quit = sym (editions_play_their_places s c.edition has.runs.edition_of.edition_of).quit ∙ has.runs.quit
+-- ---- the journal, and what is counted
 
-  module _ (p : Process W) (cycles : Cycles s c.edition c.process p) where
-    pub entries_now : entries_of p ≡ next_entry s c.edition c.process ∷ entries_of c.process
-    entries_now = ap (λ (j : Listed Noted). reverse (seen_entries j.items)) cycles.noted ∙ ap reverse (map-append seen_entry c.process.journal.items (cycles.made ∷ []))
-        ∙ reverse-append (noted c.process) (seen_entry cycles.made ∷ []) ∙ ap (λ e. e ∷ entries_of c.process) cycles.entry
+module _ {V I W : Type 0} (p q : Pair V I W) where
+  pub edition_cycled : (answer : Result (Unit {0}) CycleFault) → OnOk answer (Cycles p q) → OnErr answer (StopsOnly p q) → q.edition ≡ p.edition
+  edition_cycled (Ok u) cycles stops = cycles.edition
+  edition_cycled (Err why) cycles stops = stops.edition
 
-    pub noted_now : noted p ≡ noted c.process ++ next_entry s c.edition c.process ∷ []
-    noted_now = ap (λ (j : Listed Noted). seen_entries j.items) cycles.noted ∙ map-append seen_entry c.process.journal.items (cycles.made ∷ []) ∙ ap (λ e. noted c.process ++ e ∷ []) cycles.entry
+  pub butler_cycled : (answer : Result (Unit {0}) CycleFault) → OnOk answer (Cycles p q) → OnErr answer (StopsOnly p q) → q.butler ≡ record p.butler { ends = q.butler.ends }
+  butler_cycled (Ok u) cycles stops = cycles.butler
+  butler_cycled (Err why) cycles stops = stops.butler
 
-    plays_same : p.ends.plays ≡ c.process.ends.plays
-    plays_same = ap (λ (z : Process W). z.ends.plays) cycles.same
+  pub most_cycled : (answer : Result (Unit {0}) CycleFault) → OnOk answer (Cycles p q) → OnErr answer (StopsOnly p q) → length q.process.journal.items ≤ length p.process.journal.items + 1
+  most_cycled (Ok u) cycles stops = omega (arith, cycles.one_more)
+  most_cycled (Err why) cycles stops = omega (arith, ap (λ (z : ProcessState I W). length z.journal.items) stops.process)
 
-    truth_now : (t : ℕ) (r : Receiver Item) → slice_get c.process.ends.plays.items t ≡ Some r → TruthStands c.edition.edits s.depth t (kinds r.received) r.tails (noted p)
-    truth_now t r hr = let was = looked.looked t r hr in let turned : reverse (received_kinds r) ≡ kinds r.received = ap reverse (kinds_turned r.received) ∙ reverse-reverse (kinds r.received) in
-        let edits = c.edition.edits in let g = generation edits (length edits) in
-        subst (TruthStands edits s.depth t (kinds r.received) r.tails) (sym noted_now)
-        (subst (λ l. TruthStands edits s.depth t l r.tails (noted c.process ++ next_entry s c.edition c.process ∷ [])) turned
-        (truth_stands_with_its_entry s edits s.depth t was.before r.tails (received c.process) (received_kinds r) (noted c.process) (mapped_at received_kinds c.process.ends.plays.items t r hr)
-        has.journal_invariant.many (subst (λ l. HasLooked s.depth g (rolled g (reverse (noted c.process))) l was.before r.tails) (sym turned) was.look)
-        (subst (λ l. TruthStands edits s.depth t l was.before (noted c.process)) (sym turned) was.truth)))
+  pub room_cycled : (answer : Result (Unit {0}) CycleFault) → OnOk answer (Cycles p q) → OnErr answer (StopsOnly p q) → q.process.journal.room ≡ p.process.journal.room
+  room_cycled (Ok u) cycles stops = cycles.room
+  room_cycled (Err why) cycles stops = ap (λ (z : ProcessState I W). z.journal.room) stops.process
 
-    pub runs_after_a_cycle : Runs s (record c { process = p })
-    runs_after_a_cycle = let r = has.runs in record {
-      edition_of = r.edition_of;
-      recording = r.recording;
-      quit = r.quit;
-      serving = r.serving;
-      playing = cycles.playing;
-      ends = record {
-        plays = subst (λ l. AreOfOneRing c.butler.ends.sends.items l.items) (sym plays_same) r.ends.plays;
-        takes = subst (λ l. AreOfOneRing l.items c.butler.ends.takes.items) (sym (ap (λ (z : Process W). z.ends.takes) cycles.same)) r.ends.takes;
-        acks = r.ends.acks ∙ sym (same_ring _ c.process.ends.to_butler p.ends.to_butler cycles.to_butler);
-      };
-      control = r.control ∙ sym (same_ring _ c.process.ends.to_control p.ends.to_control cycles.to_control);
-      asked = ap (λ (j : Listed Noted). j.room) cycles.noted ∙ r.asked;
-      before = received c.process;
-      journal_invariant = subst (JournalInvariant s c.edition.edits (received c.process)) (sym entries_now)
-          (stands_with_its_entry s c.edition.edits (received c.process) (entries_of c.process) has.journal_invariant not_quit not_recording);
-      receives = subst (λ l. Receives (received c.process) (map received_kinds l.items)) (sym plays_same) record {
-        many = refl;
-        each = λ t xs ys hx hy. ([], same_Some ys xs (sym hy ∙ hx));
-      };
-      truth = subst (λ l. IsTrueOfAll c.edition.edits s.depth l.items (noted p)) (sym plays_same) truth_now;
-    }
+  pub all_cycled : (answer : Result (Unit {0}) CycleFault) → OnOk answer (Cycles p q) → OnOk answer (length q.process.journal.items ≡ length p.process.journal.items + 1)
+  all_cycled (Ok u) cycles = omega (arith, cycles.one_more)
+  all_cycled (Err why) cycles = tt
 
-  -- at a fault only the master changes
-  runs_at_a_fault : (m : W) → IsPlaying s c.edition.edits (record c.process { master = m }) → Runs s (record c { process = record c.process { master = m } })
-  runs_at_a_fault m playing = runs_given s c m has.runs playing
+  -- where the input has no frames only the master can fail
+  pub cause_cycled : (inputs : SourceOutside I) (sinks : SinkOutside W) (bytes : List ℕ) (answer : Result (Unit {0}) CycleFault) → p.process.input.stream.frames ≡ 0 → CountsInput inputs p answer q →
+      CycleWrites sinks bytes p.process answer q.process → HasCause (sinks.faults p.process.master.sink) (sinks.faults q.process.master.sink) answer
+  cause_cycled inputs sinks bytes (Ok u) none counts writes = writes.cause
+  cause_cycled inputs sinks bytes (Err MasterFault) none counts writes = writes.cause
+  cause_cycled inputs sinks bytes (Err InputFault) none counts writes = absurd (omega (arith, none, counts.1))
 
-  -- whatever it answers
-  pub runs_on : (p : Process W) (answer : Result Unit CycleFault) → OnOk answer (Cycles s c.edition c.process p) → OnErr answer (p ≡ record c.process { master = p.master }) →
-      IsPlaying s c.edition.edits p → Runs s (record c { process = p })
-  runs_on p (Ok u) cycles fault playing = runs_after_a_cycle p cycles
-  runs_on p (Err e) cycles fault playing = subst (λ z. Runs s (record c { process = z })) (sym fault) (runs_at_a_fault p.master (subst (IsPlaying s c.edition.edits) fault playing))
+-- what is noted of two answers
+pub noted_now : (old : Faults) (read master : Bool) → old ≡ only_noted old.read old.master → record old { read = read; master = master } ≡ only_noted read master
+noted_now old read master is = ap (λ (f : Faults). record f { read = read; master = master }) is
 
--- ---- a plain run
+-- ---- the block that a cycle writes
 
--- one more plain entry
-one_more_plain : (s : Session) (edits : List Edit) (n : ℕ) (before : List Entry) → plain_cycles s edits (suc n) before ≡ plain_entry s edits (plain_cycles s edits n before) ∷ plain_cycles s edits n before
-one_more_plain s edits zero before = refl
-one_more_plain s edits (suc n) before = one_more_plain s edits n (plain_entry s edits before ∷ before)
+module _ {V I W : Type 0} (media : MediaOutside V) (inputs : SourceOutside I) (sinks : SinkOutside W) (at : At) (p : Pair V I W) (runs : Runs media inputs sinks at p) (newest : at.played ≡ p.edition.edits)
+    (valid : IsValid p.edition.session) (samples : Samples) (all : AllOfTrack at.begun.session p.edition.edits samples (items_of p.process)) (law : GenuinePiecesMakeTheBlock) where
+  abbrev s : Session
+  s = at.begun.session
 
-rolls_on : (g : ℕ) (e : Entry) (entries : List Entry) → rolled g entries ≤ rolled g (e ∷ entries)
-rolls_on g e entries = by (is_rolling_in g e.state) where
-  by : (b : Bool) → rolled g entries ≤ (if b then suc (rolled g entries) else rolled g entries)
-  by true = omega arith
-  by false = omega arith
+  abbrev edits : List Edit
+  edits = p.edition.edits
 
-no_more_rolled : (g : ℕ) (entries : List Entry) → rolled g entries ≤ length entries
-no_more_rolled g [] = omega arith
-no_more_rolled g (e ∷ entries) = by (is_rolling_in g e.state) (no_more_rolled g entries) where
-  by : (b : Bool) → rolled g entries ≤ length entries → (if b then suc (rolled g entries) else rolled g entries) ≤ suc (length entries)
-  by true few = omega (arith, few)
-  by false few = omega (arith, few)
+  abbrev tracks : List (List engine.Item)
+  tracks = items_of p.process
 
--- where there is room for an entry, a block is still to come
-pub some_to_come : {V W : Type 0} (s : Session) (c : Core V W) → Runs s c → length c.process.journal.items < c.process.journal.room → next_now c < c.butler.cycles
-some_to_come s c runs room = omega (arith, room, runs.asked, no_more_rolled (generation_now c) (entries_of c.process), length-reverse (noted c.process), length-map c.process.journal.items seen_entry)
+  -- the entry that it stands for
+  abbrev pub next : Entry
+  next = entry_of s edits (entries_of p.process) (map (map (λ (i : engine.Item). i.kind)) tracks) (replicate (length s.tracks.items) Off) (length edits)
 
-greatest_is : (g h n m : ℕ) → h ≡ g → m ≤ n → (if h == g then max n m else m) ≡ n
-greatest_is g h n m same above = grind (arith, same, above)
+  abbrev state_is : p.edition.transport.rolling ≡ (edition s edits (length edits)).transport.rolling
+  state_is = ap (λ z. z.transport.rolling) runs.serves.edition_of.state
 
--- a ring of which all was taken refuses nothing
-not_refused : (ack : Acknowledgement) (a b : Sender Acknowledgement) (r : Receiver Acknowledgement) → Acknowledges ack a b → a.got ≡ length r.received → r.received ≡ a.sent → 0 < a.depth →
-    length a.sent ≤ 100000 → b.sent ≡ a.sent ++ ack ∷ []
-not_refused ack a b r (inl puts) got all deep few = ap (λ (z : Sender Acknowledgement). z.sent) puts.1.sent
-not_refused ack a b r (inr refuses) got all deep few = absurd (has_room (length a.sent) refuses.0 a.depth (omega (arith, refuses.1.head_is.rises, got, ap length all)) deep (omega (arith, few)) refuses.1.full)
+  generation_is : p.process.generation ≡ generation edits (length edits)
+  generation_is = runs.playing.generation ∙ ap (λ es. generation es (length es)) newest
 
-module _ {V W : Type 0} (s : Session) (c : Core V W) (has : HasMet s c) (looked : HasLookedAround s c) (plain : RunsPlainly s c) (taken : HasTaken c) (ready : AreReady s c)
-    (room : length c.process.journal.items < c.process.journal.room) (p : Process W) (cycles : Cycles s c.edition c.process p) where
-  ready_at : (t : ℕ) (xs : List Kind) → slice_get (received c.process) t ≡ Some xs → IsReady s c.edition.edits t (generation_now c) (next_now c) xs
-  ready_at t xs here = let r = item_at c.process.ends.plays.items t (omega (arith, slice_get_within (received c.process) t xs here, length-map c.process.ends.plays.items received_kinds)) in
-      subst (IsReady s c.edition.edits t (generation_now c) (next_now c)) (same_Some (received_kinds r.0) xs (sym (mapped_at received_kinds c.process.ends.plays.items t r.0 r.1) ∙ here)) (ready t r.0 r.1)
+  next_is : p.process.next ≡ rolled (generation edits (length edits)) (entries_of p.process)
+  next_is = runs.playing.next ∙ ap (λ g. rolled g (entries_of p.process)) generation_is
 
-  entry_is : next_entry s c.edition c.process ≡ plain_entry s c.edition.edits (entries_of c.process)
-  entry_is = ready_entry_is_plain s c.edition.edits (entries_of c.process) (received c.process) has.journal_invariant.many (not_recording s c has looked) ready_at
+  same_kinds : kinds_of p.process ≡ map (map (λ (i : engine.Item). i.kind)) tracks
+  same_kinds = sym (map-map (map (λ (i : engine.Item). i.kind)) received_items p.process.ends.plays.items)
 
-  sent_now : p.ends.to_butler.sent ≡ c.process.ends.to_butler.sent ++ ack_of p cycles.made ∷ []
-  sent_now = not_refused (ack_of p cycles.made) c.process.ends.to_butler p.ends.to_butler c.butler.ends.acks cycles.to_butler has.acknowledged.got (all_taken s c has plain taken)
-      (omega (arith, has.runs.playing.to_butler.depth, has.runs.playing.valid.formed.limits.depth.least)) (omega (arith, plain.acknowledged, room, has.runs.playing.cycles))
+  same_state : next_state p.edition p.process ≡ next.state
+  same_state = ap (λ b. state_of b p.process.generation p.process.next (kinds_of p.process)) state_is
+      ∙ ap (λ g. state_of (edition s edits (length edits)).transport.rolling g p.process.next (kinds_of p.process)) generation_is
+      ∙ ap (λ n. state_of (edition s edits (length edits)).transport.rolling (generation edits (length edits)) n (kinds_of p.process)) next_is
+      ∙ ap (λ l. state_of (edition s edits (length edits)).transport.rolling (generation edits (length edits)) (rolled (generation edits (length edits)) (entries_of p.process)) l) same_kinds
 
-  long : length p.journal.items ≡ length c.process.journal.items + 1
-  long = ap (λ (j : Listed Noted). length j.items) cycles.noted ∙ length_push c.process.journal.items cycles.made
+  as_many : length tracks ≡ length s.tracks.items
+  as_many = length-map p.process.ends.plays.items received_items ∙ runs.playing.plays
 
-  pub plain_after_a_cycle : RunsPlainly s (record c { process = p })
-  plain_after_a_cycle = let edits = c.edition.edits in let n = length c.process.journal.items in let g = generation_now c in let longer : suc n ≡ length p.journal.items = omega (arith, long) in record {
-    runs = runs_after_a_cycle s c has looked p cycles;
-    entries = entries_now s c has looked p cycles ∙ ap (λ e. e ∷ entries_of c.process) entry_is ∙ ap (λ es. plain_entry s edits es ∷ es) plain.entries ∙ sym (one_more_plain s edits n [])
-        ∙ ap (λ k. plain_cycles s edits k []) longer;
-    acknowledged = ap length sent_now ∙ length_push c.process.ends.to_butler.sent (ack_of p cycles.made) ∙ ap (λ k. k + 1) plain.acknowledged ∙ sym long;
-    next = ap (λ l. next_block (acks_of l) g) sent_now ∙ ap (λ l. next_block l g) (map-append engine_ack c.process.ends.to_butler.sent (ack_of p cycles.made ∷ []))
-        ∙ next_more (acks_of c.process.ends.to_butler.sent) (engine_ack (ack_of p cycles.made)) g
-        ∙ greatest_is g p.generation (rolled p.generation (entries_of p)) (next_block (acks_of c.process.ends.to_butler.sent) g) cycles.playing.generation
-        (omega (
-          arith,
-          plain.next,
-          rolls_on g (next_entry s c.edition c.process) (entries_of c.process),
-          ap (rolled g) (entries_now s c has looked p cycles),
-          ap (λ h. rolled h (entries_of p)) cycles.playing.generation,
-        ))
-        ∙ ap (λ h. rolled h (entries_of p)) cycles.playing.generation;
-    tracks = plain.tracks;
-  }
+  -- its bytes are those of the entry's block
+  pub bytes_are : next_bytes s p.edition p.process ≡ entry_bytes s edits samples next
+  bytes_are = ap (λ z. sound_bytes (bits_of s.bits) (mixed_in s edits tracks (length edits) z)) same_state
+      ∙ ap (sound_bytes (bits_of s.bits)) (law s edits samples (entries_of p.process) tracks (replicate (length s.tracks.items) Off) (length edits)
+      (subst IsValid (ap (λ z. z.session) runs.serves.edition_of.state) valid) as_many (length-replicate (length s.tracks.items) Off ∙ sym as_many) all)
 
-  pub received_after_a_cycle : IsIdle s c → HasReceived s (record c { process = p })
-  received_after_a_cycle idle t d r hd hr = inl (idle.received t d r hd (subst (λ l. slice_get l.items t ≡ Some r) (plays_same s c has looked p cycles) hr))
-
-pub entered_plainly : {V W : Type 0} (s : Session) (c : Core V W) (has : HasMet s c) (looked : HasLookedAround s c) (plain : RunsPlainly s c) (taken : HasTaken c) (ready : AreReady s c) (idle : IsIdle s c)
-    (room : length c.process.journal.items < c.process.journal.room) (p : Process W) (answer : Result Unit CycleFault) → OnOk answer (Cycles s c.edition c.process p) →
-    OnOk answer (RunsPlainly s (record c { process = p }) × HasReceived s (record c { process = p }))
-entered_plainly s c has looked plain taken ready idle room p (Ok u) cycles = (plain_after_a_cycle s c has looked plain taken ready room p cycles, received_after_a_cycle s c has looked plain taken ready room p cycles idle)
-entered_plainly s c has looked plain taken ready idle room p (Err e) cycles = tt
+  -- where its write failed the master is cut off
+  pub cut_cycled : (q : Pair V I W) (first : List ℕ) (cycles : ℕ) (answer : Result (Unit {0}) CycleFault) → p.process.input.stream.frames ≡ 0 → CountsInput inputs p answer q → OnErr answer (StopsOnly p q) → sinks.tells →
+      sinks.held p.process.master.sink ≡ first ++ bytes_made s edits samples cycles (seen_entries p.process.journal.items) → CycleWrites sinks (next_bytes s p.edition p.process) p.process answer q.process →
+      OnErr answer (IsCutOff first (sinks.held q.process.master.sink) s edits samples cycles (seen_entries q.process.journal.items))
+  cut_cycled q first cycles (Ok u) none counts stops told held writes = tt
+  cut_cycled q first cycles (Err InputFault) none counts stops told held writes = absurd (omega (arith, none, counts.1))
+  cut_cycled q first cycles (Err MasterFault) none counts stops told held writes = inr (inl (
+    next,
+    subst (λ j. AppendsSome (first ++ bytes_made s edits samples cycles (seen_entries j)) now (entry_bytes s edits samples next))
+        (sym (ap (λ (z : ProcessState I W). z.journal.items) stops.process))
+        (subst (λ l. AppendsSome l now (entry_bytes s edits samples next)) held (subst (AppendsSome (sinks.held p.process.master.sink) now) bytes_are (writes.front told))),
+  ))
+    where
+      now : List ℕ
+      now = sinks.held q.process.master.sink

@@ -1,21 +1,14 @@
--- The lemmas of the engine on one thread.
-pub mod RingLemmas
-pub mod JoiningLemmas
-pub mod MeetLemmas
-pub mod RunningLemmas
-pub mod StepLemmas
-pub mod PlainSendsLemmas
-pub mod PlainTurnLemmas
-pub mod PlainlyLemmas
-pub mod SendsLemmas
-pub mod AnswerLemmas
-pub mod SerialLemmas
-pub mod ClosingLemmas
-pub mod WrittenLemmas
-pub mod CycleLemmas
+-- Why an export goes the way of the core machine, and why its master and its rings are what they are.
+pub mod LeadLemmas
+pub mod FollowLemmas
+pub mod EndLemmas
 pub mod ControlLemmas
-mod ControlVectors
+pub mod AnswerLemmas
+pub mod ServeLemmas
+pub mod MasterLemmas
+pub mod CycleLemmas
+pub mod CycleStepLemmas
 pub mod PerformLemmas
+pub mod CloseLemmas
 pub mod FinishLemmas
-pub mod StartLemmas
 pub mod PlayLemmas

@@ -1,8 +1,8 @@
 -- What is kept of the answers of several turns.
 use Rattle.std.specs.Prelude.{Bool, true, false, Result, Ok, Err}
-use Rattle.plain_butler.specs.declared.turning.Turn.{Turn}
-use Rattle.plain_butler.specs.declared.turning.Turn.TheVariants.{Moved, Idle}
-use Rattle.plain_butler.specs.declared.faults.ButlerFault.{ButlerFault}
+use Rattle.butler.specs.declared.turning.Turn.{Turn}
+use Rattle.butler.specs.declared.turning.Turn.TheVariants.{Moved, Idle}
+use Rattle.butler.specs.declared.faults.ButlerFault.{ButlerFault}
 
 abbrev pub is_idle : Result Turn ButlerFault → Bool
 is_idle (Ok (Moved n)) = false

@@ -1,37 +1,27 @@
 -- What a run may begin with, and what it leaves.
-use Rattle.std.specs.Prelude.{◌≡◌, ℕ, ◌≤◌, true, false, List, [], ◌++◌, length, Option, Some, None}
+use Rattle.std.specs.Prelude.{◌≡◌, ℕ, ◌≤◌, true, false, List, [], ◌++◌, Option, Some, None}
 use Rattle.sound_model.specs.Regions.{Sounds}
 use Rattle.session_model.specs.declared.session.Session.{Session}
-use Rattle.session_model.specs.declared.edit.Edit.{Edit}
 use Rattle.ses_io.specs.Outside.{MediaOutside, SinkOutside}
 use Rattle.ses_io.specs.declared.world.World.{World}
-use Rattle.engine_model.specs.Fits.{is_lawful}
 use Rattle.engine_model.specs.Journal.{Entry}
-use Rattle.engine_model.specs.Plain.{accepted, export_commands, plain}
 use Rattle.engine_model.specs.Played.{Samples, master_file, samples_of}
-use Rattle.engine_model.specs.PlainSession.{is_plain}
 use Rattle.audio_source.specs.Opened.{IsListed}
 use Rattle.audio_source.specs.Lines.{SourcesState}
 use Rattle.audio_source.specs.Told.{source_sound}
 use Rattle.cycle_journal.specs.JournalView.{seen_entries}
 use Rattle.edition_log.specs.EditionState.{EditionState as Edition, IsEditionOf}
-use Rattle.plain_process.specs.declared.finished.Faults.{Faults}
-use Rattle.plain_process.specs.declared.finished.Finished.{Finished}
-use Rattle.plain_process.specs.declared.finished.TrackRings.{TrackRings}
-use Rattle.plain_process.specs.declared.opened.Opened.{Opened}
-use Rattle.plain_process.specs.declared.opened.Script.{Script}
+use Rattle.run_world.specs.declared.finished.Finished.{Finished}
+use Rattle.run_world.specs.declared.opened.Opened.{Opened}
+use Rattle.run_world.specs.declared.opened.Script.{Script}
 use Rattle.engine_core.specs.declared.events.Event.{Event}
-use Rattle.engine_core.specs.declared.finishing.Ended.{Ended}
-use Rattle.engine_core.specs.Begun.{Begun}
-use Rattle.engine_core.specs.Passed.{PassedOn, AllGenuine, AllStayOpen}
-use Rattle.engine_core.specs.RunInvariant.{only_noted}
-use Rattle.engine_core.specs.Serial.{IsCounted}
+use Rattle.engine_core.specs.Asked.{IsCounted}
+use Rattle.engine_core.specs.Passed.{AllGenuine}
+use Rattle.engine_core.specs.Playing.{IsPlayedOut}
 use Rattle.engine_core.specs.Written.{IsCutOff}
 
 -- A run may begin with this edition of session s, these sources, and so many cycles.
 pub record MayPlay (s : Session) (e : Edition) (sources : SourcesState) (cycles : ℕ) : Type 0 where
-  -- the session is of those that are played so far
-  pub plain : is_plain s ≡ true
   -- no edit has come yet, and one may come
   pub edition_of : IsEditionOf s e
   pub first : e.edits ≡ []
@@ -47,39 +37,6 @@ pub record MayPlay (s : Session) (e : Edition) (sources : SourcesState) (cycles 
 abbrev pub from_in : Option Script → ℕ
 from_in (Some script) = script.from
 from_in None = 0
-
--- What is left of a run that is told to play so many cycles from a position on.
-pub record IsPlayedOut (s : Session) (from cycles : ℕ) (edits : List Edit) (journal : List Entry) (rings : List TrackRings) (faults : Faults) : Type 0 where
-  -- the accepted edits, in order
-  pub edits_are : edits ≡ accepted s cycles (export_commands from)
-  -- the journal is lawful
-  pub lawful : is_lawful s edits journal ≡ true
-  -- it has an entry for each cycle, fewer only where a write of the master failed
-  pub most : length journal ≤ cycles
-  pub all : faults.master ≡ false → length journal ≡ cycles
-  -- each track's rings are ordered and true
-  pub passed : PassedOn s edits journal rings
-  -- and stay open, unless a read failed
-  pub still_open : faults.read ≡ false → AllStayOpen rings
-  -- where nothing failed the journal is the plain one
-  pub plainly : faults.read ≡ false → faults.master ≡ false → journal ≡ plain s cycles (export_commands from)
-  -- what may have failed
-  pub noted : faults ≡ only_noted faults.read faults.master
-
--- what a run leaves of what it began with, but for the world that it didn't have
-pub record IsLeft {V W : Type 0} (media : MediaOutside V) (sink : SinkOutside W) (begun : Begun) (from cycles : ℕ) (x : Ended V W) : Type 0 where
-  pub leaves : IsPlayedOut begun.session from cycles x.edits.items (seen_entries x.journal.items) x.rings.items x.faults
-  -- each item sent is genuine
-  pub genuine : media.tells → AllGenuine begun.sounds begun.session x.edits.items x.rings.items
-  -- where no write failed the master was given its file
-  pub master : media.tells → sink.tells → x.faults.master ≡ false → sink.held x.master
-      ≡ begun.held ++ master_file begun.session x.edits.items (samples_of begun.sounds begun.session x.edits.items) cycles (seen_entries x.journal.items)
-  -- where one failed it is cut off
-  pub front : media.tells → sink.tells → x.faults.master ≡ true →
-      IsCutOff begun.held (sink.held x.master) begun.session x.edits.items (samples_of begun.sounds begun.session x.edits.items) cycles (seen_entries x.journal.items)
-  -- both counts of faults
-  pub reads : IsCounted begun.reads (media.read_faults x.media) x.faults.read
-  pub writes : IsCounted begun.writes (sink.faults x.master) x.faults.master
 
 module _ {M I C W O : Type 0} where
   -- A run may begin with what was opened. Its control is a script, and no event comes before the serial rest, so far.

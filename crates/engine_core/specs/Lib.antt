@@ -1,16 +1,12 @@
--- What the engine has on one thread, and what its calls do.
+-- What the engine does on one thread, from an export's start to its end.
+pub mod Asked
 pub mod Answers
-pub mod Begun
-pub mod Rings
-pub mod Running
-pub mod Steps
-pub mod Plainly
-pub mod Written
-pub mod Serial
-pub mod RunInvariant
-pub mod Ending
 pub mod Control
-pub mod Starting
+pub mod Follows
+pub mod Written
+pub mod RunInvariant
+pub mod Performed
 pub mod Passed
 pub mod Finishing
+pub mod Playing
 pub mod Events

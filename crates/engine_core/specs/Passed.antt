@@ -9,8 +9,8 @@ use Rattle.engine_model.specs.Played.{samples_of, IsGenuine}
 use Rattle.engine_model.specs.Truth.{IsTruthful}
 use Rattle.disk_ring.specs.Rings.{Whole}
 use Rattle.piece_item.specs.Views.{item_of}
-use Rattle.plain_process.specs.declared.finished.TrackRings.{TrackRings}
-use Rattle.plain_butler.specs.Sends.{kinds}
+use Rattle.run_rings.specs.declared.joining.TrackRings.{TrackRings}
+use Rattle.read_ahead.specs.Items.{kinds}
 
 -- the rings of track t
 pub record IsPassedOn (s : Session) (edits : List Edit) (t : ℕ) (journal : List Entry) (r : TrackRings) : Type 0 where

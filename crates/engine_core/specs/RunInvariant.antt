@@ -1,86 +1,61 @@
--- What is so of the engine and of a run, from the start to the last cycle.
-use Rattle.std.specs.Prelude.{◌≡◌, ℕ, ◌+◌, ◌≤◌, Bool, true, false, List, [], ◌++◌, length}
-use Rattle.ses_io.specs.Outside.{MediaOutside, SinkOutside, OnlyReads}
-use Rattle.ses_io.specs.Streams.{AppendsSome}
-use Rattle.audio_source.specs.Told.{source_sound}
-use Rattle.edition_log.specs.EditionState.{EditionState as Edition}
-use Rattle.plain_process.specs.declared.finished.Faults.{Faults}
-use Rattle.plain_butler.specs.ButlerState.{ButlerState as Butler}
-use Rattle.plain_butler.specs.Serving.{AreGenuine}
-use Rattle.engine_core.specs.declared.engine.Core.{Core}
+-- What is so of an export, from the header of its master to its last cycle.
+use Rattle.std.specs.Prelude.{◌≡◌, ℕ, ◌+◌, ◌<◌, ◌≤◌, Bool, true, false, if◌then◌else◌, is_err, length, Result}
+use Rattle.ses_io.specs.Outside.{MediaOutside, SourceOutside, SinkOutside, OnlyReads}
+use Rattle.engine_model.specs.Edits.{has_quit}
+use Rattle.engine_model.specs.Played.{samples_of}
+use Rattle.cycle_journal.specs.JournalView.{seen_entries}
+use Rattle.machine_model.specs.Rest.{Between}
+use Rattle.engine_pair.specs.declared.pair.Pair.{Pair}
+use Rattle.engine_pair.specs.Runs.{Rests, Runs, at_now}
 use Rattle.engine_core.specs.declared.serial.Run.{Run}
-use Rattle.engine_core.specs.Begun.{Begun}
-use Rattle.engine_core.specs.Running.{Runs}
-use Rattle.engine_core.specs.Plainly.{RunsPlainly, HasReceived}
-use Rattle.engine_core.specs.Serial.{AreOpen, IsCounted, Remains}
-use Rattle.engine_core.specs.Written.{IsCut, HoldsAllEntries}
+use Rattle.engine_core.specs.Asked.{Asked, sounds_of, IsCounted, only_noted}
+use Rattle.engine_core.specs.Control.{IsControlled}
+use Rattle.engine_core.specs.Follows.{Follows}
+use Rattle.engine_core.specs.Written.{IsCutOff}
 
--- nothing failed but, perhaps, a read of the media and a write of the master
-abbrev pub only_noted : Bool → Bool → Faults
-only_noted read master = record { input = false; master = master; read = read; write = false; control = false; long = false; out = false; memory = false }
+module _ {V I W : Type 0} where
+  -- What a pair has of an export, whatever has failed.
+  pub record IsOf (media : MediaOutside V) (on : Asked V I) (p : Pair V I W) : Type 0 where
+    -- its control has carried out the lines
+    pub controlled : IsControlled on.begun.session on.from p.edition
+    pub cycles : p.butler.cycles ≡ on.cycles
+    pub opened : p.butler.sources.opened ≡ on.opened
+    -- no file changed, and nothing was read of the input
+    pub only_reads : OnlyReads media on.media p.butler.media
+    pub frames : p.process.input.stream.frames ≡ 0
+    pub input : p.process.input.input ≡ on.input
 
--- What the butler has sent in this edition.
-pub record SendsBy {V : Type 0} (media : MediaOutside V) (begun : Begun) (e : Edition) (b : Butler V) : Type 0 where
-  -- its edits are those that the run began with
-  pub edits : e.edits ≡ begun.edits
-  -- the sources have the same sounds still
-  pub sounds : source_sound (media.files b.media) b.sources ≡ begun.sounds
-  -- by which each item sent is genuine, where the media tells
-  pub genuine : media.tells → AreGenuine begun.sounds begun.session e.edits b.ends.sends.items
-
-module _ {V W : Type 0} where
-  -- **The engine runs what was begun.**
-  pub record IsRunning (media : MediaOutside V) (begun : Begun) (c : Core V W) : Type 0 where
-    pub runs : Runs begun.session c
-    pub sends : SendsBy media begun c.edition c.butler
-
-  -- **A run is under way**, whatever the master holds.
-  pub record IsUnderWay (media : MediaOutside V) (sink : SinkOutside W) (begun : Begun) (r : Run V W) : Type 0 where
-    pub running : IsRunning media begun r.core
-    -- while nothing failed it runs plainly, and all that was sent was received
-    pub plainly : r.faults.read ≡ false → r.faults.master ≡ false → RunsPlainly begun.session r.core × HasReceived begun.session r.core
-    -- while no read failed the rings are open
-    pub still_open : r.faults.read ≡ false → AreOpen r.core.butler.ends.sends.items
-    -- both counts of faults are tied to what is noted
-    pub reads : IsCounted begun.reads (media.read_faults r.core.butler.media) r.faults.read
-    pub writes : IsCounted begun.writes (sink.faults r.core.process.master) r.faults.master
-    -- and only reads and writes of the master are
+  -- **A run is under way**: its header was written or not.
+  pub record IsUnderWay (media : MediaOutside V) (inputs : SourceOutside I) (sinks : SinkOutside W) (on : Asked V I) (header : Bool) (r : Run V I W) : Type 0 where
+    pub is_of : IsOf media on r.pair
+    pub rests : Rests media (at_now on.begun header r.pair) r.pair
+    -- while no write of the master failed it runs
+    pub runs : r.faults.master ≡ false → Runs media inputs sinks (at_now on.begun header r.pair) r.pair
+    -- while nothing failed it goes the way of the core machine
+    pub follows : r.faults.read ≡ false → r.faults.master ≡ false → Follows on.begun.session on.cycles on.from Between r.pair
+    -- the rings are closed where a read failed
+    pub reads : IsCounted (media.read_faults on.media) (media.read_faults r.pair.butler.media) r.faults.read
+    pub failed : r.pair.butler.read_failed ≡ r.faults.read
+    pub writes : IsCounted on.writes (sinks.faults r.pair.process.master.sink) r.faults.master
+    -- and nothing else is noted
     pub noted : r.faults ≡ only_noted r.faults.read r.faults.master
+    -- once a write of the master failed it is cut off
+    pub cut : media.tells → sinks.tells → r.faults.master ≡ true → IsCutOff on.begun.before (sinks.held r.pair.process.master.sink) on.begun.session r.pair.edition.edits
+        (samples_of (sounds_of on) on.begun.session r.pair.edition.edits) on.cycles (seen_entries r.pair.process.journal.items)
 
-  -- **A run is performing**, from the header of its master on.
-  pub record IsPerforming (media : MediaOutside V) (sink : SinkOutside W) (begun : Begun) (r : Run V W) : Type 0 where
-    pub under_way : IsUnderWay media sink begun r
-    -- while no write failed the master holds the bytes of all entries
-    pub written : media.tells → sink.tells → r.faults.master ≡ false → HoldsAllEntries sink.held begun.held begun.session begun.sounds r.core
-    -- once one failed it is cut off
-    pub cut : media.tells → sink.tells → r.faults.master ≡ true → IsCut sink.held begun.held begun.session begun.sounds r.core
+  -- a cycle may begin
+  pub record MayOpen (on : Asked V I) (p : Pair V I W) : Type 0 where
+    pub follows : Follows on.begun.session on.cycles on.from Between p
+    pub asked : p.butler.cycles ≡ on.cycles
+    pub room : length p.process.journal.items < on.cycles
+    pub unended : (k : ℕ) → has_quit p.edition.edits k ≡ false
 
-  -- there is room for the entries of so many cycles more
-  abbrev pub HasRoomFor : ℕ → Run V W → Type 0
-  HasRoomFor n r = length r.core.process.journal.items + n ≤ r.core.process.journal.room
+  -- so many cycles were made at most, and all of them while no write failed
+  pub record Makes (n : ℕ) (old new : Run V I W) : Type 0 where
+    pub most : length new.pair.process.journal.items ≤ length old.pair.process.journal.items + n
+    pub all : new.faults.master ≡ false → length new.pair.process.journal.items ≡ length old.pair.process.journal.items + n
+    pub room : new.pair.process.journal.room ≡ old.pair.process.journal.room
 
-  -- no cycle was made of so many, and the master was given nothing
-  pub record IsFresh (sink : SinkOutside W) (begun : Begun) (cycles : ℕ) (r : Run V W) : Type 0 where
-    pub none : r.core.process.journal.items ≡ []
-    pub room : r.core.process.journal.room ≡ cycles
-    pub fine : r.faults.master ≡ false
-    pub held : sink.held r.core.process.master ≡ begun.held
-
-  -- so many cycles were made at most, and all of them while no write failed; the files and what no step changes are as they were
-  pub record Makes (media : MediaOutside V) (n : ℕ) (old new : Run V W) : Type 0 where
-    pub most : length new.core.process.journal.items ≤ length old.core.process.journal.items + n
-    pub all : new.faults.master ≡ false → length new.core.process.journal.items ≡ length old.core.process.journal.items + n
-    pub remains : Remains old.core new.core
-    pub only_reads : OnlyReads media old.core.butler.media new.core.butler.media
-
-  -- the master was given these bytes, unless it has failed, and nothing else changed
-  pub record MasterGets (sink : SinkOutside W) (bytes : List ℕ) (old new : Run V W) : Type 0 where
-    pub same : new ≡ record old {
-      core = record old.core { process = record old.core.process { master = new.core.process.master } };
-      faults = record old.faults { master = new.faults.master };
-    }
-    pub given : sink.tells → new.faults.master ≡ false → sink.held new.core.process.master ≡ sink.held old.core.process.master ++ bytes
-    -- where it fails it was given a front of them
-    pub front : sink.tells → old.faults.master ≡ false → new.faults.master ≡ true → AppendsSome (sink.held old.core.process.master) (sink.held new.core.process.master) bytes
-    -- it failed if it had
-    pub stays : new.faults.master ≡ false → old.faults.master ≡ false
+  -- the butler knows of a failed read where one was answered, or was before
+  abbrev pub FailsBy : {E : Type 0} → Pair V I W → Result (Unit {0}) E → Pair V I W → Type 0
+  FailsBy old answer new = new.butler.read_failed ≡ (if is_err answer then true else old.butler.read_failed)

@@ -1,8 +1,8 @@
-//! What is kept of the answers of several turns.
+//! What is kept of the answers of several calls.
 ghost use Rattle.std.specs.Prelude.{◌≡◌, true, if◌then◌else◌, is_err};
 ghost use Rattle.engine_core.specs.Answers.{is_idle, with_fault};
 
-use plain_butler::{ButlerFault, Turn};
+use butler::{ButlerFault, Turn};
 
 /// Whether a turn was Idle.
 pub(crate) fn is_idle(answer: Result<Turn, ButlerFault>) -> bool

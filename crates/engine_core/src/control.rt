@@ -1,39 +1,29 @@
 //! The control of an export: it locates, and rolls.
-ghost use Rattle.std.specs.Prelude.{◌≡◌, [], IsTrue};
-ghost use Rattle.engine_core.specs.Begun.{Begun};
-ghost use Rattle.edition_log.specs.EditionState.{IsEditionOf, IsOpen};
-ghost use Rattle.edition_log.specs.Entered.{IsAsOpened};
-ghost use Rattle.engine_core.specs.Control.{is_of_export, Obeys, IsControlled};
+ghost use Rattle.std.specs.Prelude.{◌≡◌};
+ghost use Rattle.machine_model.specs.Rest.{Between};
+ghost use Rattle.edition_log.specs.EditionState.{IsOpen};
+ghost use Rattle.engine_pair.specs.Begun.{at_first};
+ghost use Rattle.engine_pair.specs.Runs.{Runs};
+ghost use Rattle.engine_core.specs.Asked.{Asked};
+ghost use Rattle.engine_core.specs.Control.{IsAtRest, IsControlled};
+ghost use Rattle.engine_core.specs.Follows.{Follows};
 
-use edition_log::Edition;
-use plain_process::Script;
+use engine_pair::Pair;
+use run_world::Script;
+use ses_io::{Media, Sink, Source};
 use session_model::Edit;
 
-/// One control line of an export: its edit is accepted, or refused and nothing changes.
-pub(crate) fn obey(edition: &mut Edition, edit: &Edit)
-    ghost begun: { Begun }
-    requires of { IsAsOpened begun.session edition.old }
-    requires of_export { IsTrue (is_of_export edit.now) }
-    requires open { IsOpen edition.old }
-    ensures obeys { Obeys begun.session edition.old edit.now edition.new }
-    ensures still_open { IsOpen edition.new }
-    ensures recording { edition.new.transport.recording ≡ edition.old.transport.recording }
+/// Carries out the lines of an export. One that is refused changes nothing.
+pub(crate) fn control<M: Media, I: Source, W: Sink>(pair: &mut Pair<M, I, W>, script: Script)
+    ghost on: { Asked M I }
+    requires runs { Runs M.outside I.outside W.outside (at_first on.begun) pair.old }
+    requires rest { IsAtRest on.begun.session pair.old }
+    requires open { IsOpen pair.old.edition }
+    ensures runs { Runs M.outside I.outside W.outside (at_first on.begun) pair.new }
+    ensures same { pair.new ≡ record pair.old { edition = pair.new.edition } }
+    ensures controlled { IsControlled on.begun.session script.from pair.new.edition }
+    ensures follows { Follows on.begun.session on.cycles script.from Between pair.new }
 {
-    let _ = edition.apply(edit);
-}
-
-/// The edition after the lines of a script.
-pub(crate) fn controlled(edition: Edition, script: Script) -> Edition
-    ghost begun: { Begun }
-    requires of { IsEditionOf begun.session edition }
-    requires none { edition.edits ≡ [] }
-    requires open { IsOpen edition }
-    ensures controlled { IsControlled begun.session script.from result }
-    ensures still_open { IsOpen result }
-    ensures recording { result.transport.recording ≡ edition.transport.recording }
-{
-    let mut edition = edition;
-    obey(&mut edition, &Edit::Locate { to: script.from });
-    obey(&mut edition, &Edit::Roll);
-    edition
+    let _ = pair.publish(&Edit::Locate { to: script.from });
+    let _ = pair.publish(&Edit::Roll);
 }

@@ -6,7 +6,8 @@ ghost use Rattle.engine_core.specs.Events.{MayRun, LeavesARun, SendsGenuine, Get
 
 use crate::finishing::Ended;
 use crate::playing::play_script;
-use plain_process::{Finished, Opened};
+use engine_pair::Start;
+use run_world::{Finished, Opened};
 use ses_io::{Media, Sink, Source, World};
 use std::alloc::Global;
 
@@ -63,9 +64,20 @@ pub fn run_events<M: Media, I: Source, C: Source, W: Sink, O: Sink>(
         out,
     } = world;
     let Some(script) = script else { unreachable!() };
-    match play_script(alloc, edition, sources, cycles, script, media, master) {
-        Ok(ended) => Ok(finished(ended, input, control, out)),
-        Err((media, master)) => Err(World {
+    // by which the session is valid
+    let _session = edition.session();
+    let start = Start {
+        edition,
+        sources,
+        cycles,
+        form: None,
+        media,
+        input,
+        master,
+    };
+    match play_script(alloc, start, script) {
+        Ok(ended) => Ok(finished(ended, control, out)),
+        Err((media, input, master)) => Err(World {
             media,
             input,
             control,
@@ -76,16 +88,11 @@ pub fn run_events<M: Media, I: Source, C: Source, W: Sink, O: Sink>(
 }
 
 // What a run leaves, with the parts of the world that it didn't have.
-fn finished<M, I, C, W, O>(
-    ended: Ended<M, W>,
-    input: I,
-    control: C,
-    out: O,
-) -> Finished<M, I, C, W, O>
+fn finished<M, I, C, W, O>(ended: Ended<M, I, W>, control: C, out: O) -> Finished<M, I, C, W, O>
     ensures { result ≡ record {
       world = record {
         media = ended.media;
-        input = input;
+        input = ended.input;
         control = control;
         master = ended.master;
         out = out;
@@ -99,6 +106,7 @@ fn finished<M, I, C, W, O>(
 {
     let Ended {
         media,
+        input,
         master,
         journal,
         edits,

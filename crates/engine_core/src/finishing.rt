@@ -1,37 +1,38 @@
-//! How a run ends: the rings are closed, the butler takes its last turns, and the rings are joined again.
-ghost use Rattle.std.specs.Prelude.{◌≡◌};
-ghost use Rattle.engine_core.specs.Begun.{Begun};
-ghost use Rattle.engine_core.specs.RunInvariant.{IsUnderWay};
-ghost use Rattle.engine_core.specs.Finishing.{IsClosed, CloseLeaves, HasLists, PartGivesBack, PartJoins};
+//! How a run ends: the rings are closed, the butler takes its last turns, and the rings are joined
+//! again.
+ghost use Rattle.ses_io.specs.Faults.{HasCause};
+ghost use Rattle.disk_ring.specs.Rings.{Whole};
+ghost use Rattle.engine_pair.specs.Runs.{Serves};
+ghost use Rattle.engine_core.specs.Asked.{Asked};
+ghost use Rattle.engine_core.specs.Performed.{IsPerformed};
+ghost use Rattle.engine_core.specs.Finishing.{CloseLeaves, DrainKeeps, DrainsOn, EndingFails, EndsGenuine, HasLists, IsClosed, IsEnded, at_end};
 
-use crate::answers::failed;
-use crate::closing::Closing;
-use crate::engine::Core;
-use crate::joining::{TrackEnds, join_all};
+use crate::answers::{failed, is_idle, with_fault};
 use crate::lists::{RunLists, copy_edits};
 use crate::serial::Run;
+use butler::{ButlerFault, ButlerParts};
 use cycle_journal::Journal;
-use disk_ring::{Ring, RingIn, RingOut, rejoin};
-use piece_item::{Ack, ButlerEnds};
-use plain_butler::{Butler, ButlerParts};
-use plain_process::{Faults, ProcessEnds, ProcessParts, RingsList};
-use ses_io::{Media, Sink};
+use disk_ring::Ring;
+use engine_pair::{Ending, Stopped};
+use piece_item::Ack;
+use run_rings::{JoinedRings, RingsList, join_ends};
+use run_world::Faults;
+use ses_io::{Media, Sink, Source};
 use session_model::EditList;
 
 /// A run whose process has ended and whose butler has nothing left to do.
 #[derive(Drop)]
-pub(crate) struct Closed<M: Media, W> {
-    pub(crate) closing: Closing<M>,
-    pub(crate) master: W,
-    pub(crate) journal: Journal,
-    pub(crate) acks: RingOut<Ack>,
+pub(crate) struct Closed<M: Media, I, W> {
+    pub(crate) ending: Ending<M>,
+    pub(crate) stopped: Stopped<I, W>,
     pub(crate) faults: Faults,
 }
 
 /// What a run leaves of what it was given, and what it made.
 #[derive(Drop)]
-pub(crate) struct Ended<M, W> {
+pub(crate) struct Ended<M, I, W> {
     pub(crate) media: M,
+    pub(crate) input: I,
     pub(crate) master: W,
     pub(crate) journal: Journal,
     pub(crate) edits: EditList,
@@ -40,110 +41,88 @@ pub(crate) struct Ended<M, W> {
     pub(crate) faults: Faults,
 }
 
-/// ClosesARun the rings of takes and acknowledgements, and lets the butler make turns until one is Idle.
-pub(crate) fn close<M: Media, W: Sink>(run: Run<M, W>) -> Closed<M, W>
-    ghost begun: { Begun }
-    requires { IsUnderWay M.outside W.outside begun run }
-    ensures closed { IsClosed M.outside begun result }
-    ensures leaves { CloseLeaves M.outside run result }
+// Turns until one is Idle. A turn that failed isn't.
+fn drain<M: Media, I>(ending: Ending<M>) -> (Ending<M>, Result<(), ButlerFault>)
+    ghost on: { Asked M I }
+    requires { Serves M.outside (at_end on.begun ending) ending }
+    ensures serves { Serves M.outside (at_end on.begun result.0) result.0 }
+    ensures keeps { DrainKeeps M.outside ending result.0 }
+    ensures follows { DrainsOn on ending result.1 result.0 }
+    ensures failed { EndingFails ending result.1 result.0 }
+    ensures cause { HasCause (M.outside.read_faults ending.butler.media)
+        (M.outside.read_faults result.0.butler.media) result.1 }
 {
-    let Run { core, mut faults } = run;
-    let Core {
-        edition,
-        butler,
-        process,
-        acks,
-    } = core;
-    let ProcessParts {
-        master,
-        journal,
-        ends,
-    } = process.parts();
-    let closing = Closing {
-        edition,
-        butler,
-        ends,
-    };
-    let (closing, drained) = closing.drain();
+    let mut ending = ending;
+    let mut answer = Ok(());
+    'draining: loop {
+        let (turned, did) = ending.turn();
+        answer = with_fault(did, answer);
+        ending = turned;
+        if is_idle(did) {
+            return (ending, answer);
+        }
+    }
+}
+
+/// Ends the process, and lets the butler make turns until one is Idle.
+pub(crate) fn close<M: Media, I: Source, W: Sink>(run: Run<M, I, W>) -> Closed<M, I, W>
+    ghost on: { Asked M I }
+    requires { IsPerformed M.outside I.outside W.outside on run }
+    ensures closed { IsClosed M.outside on result }
+    ensures leaves { CloseLeaves run result }
+{
+    let Run { pair, mut faults } = run;
+    let (ending, stopped) = pair.close();
+    let (ending, drained) = drain::<M, I>(ending);
     faults.read = failed(drained, faults.read);
     Closed {
-        closing,
-        master,
-        journal,
-        acks,
+        ending,
+        stopped,
         faults,
     }
 }
 
-// The media of a butler, the ends of the rings of all tracks, and the one that acknowledged to control.
-fn taken_apart<M: Media>(butler: Butler<M>, ends: ProcessEnds) -> (M, TrackEnds, RingIn<Ack>)
-    ensures media { result.0 ≡ butler.media }
-    ensures track_ends { result.1 ≡ record {
-      sends = butler.ends.sends;
-      plays = ends.plays;
-      captures = ends.takes;
-      flushes = butler.ends.takes;
-    } }
-    ensures control { result.2 ≡ ends.to_control }
-{
-    let ButlerParts {
-        media,
-        ends: theirs,
-    } = butler.parts();
-    let ButlerEnds {
-        sends,
-        takes: flushes,
-        acks: _,
-    } = theirs;
-    let ProcessEnds {
-        plays,
-        takes: captures,
-        to_butler: _,
-        to_control,
-    } = ends;
-    let track_ends = TrackEnds {
-        sends,
-        plays,
-        captures,
-        flushes,
-    };
-    (media, track_ends, to_control)
-}
-
 /// Joins the rings again, and gives everything back.
-pub(crate) fn part<M: Media, W: Sink>(closed: Closed<M, W>, lists: RunLists) -> Ended<M, W>
-    ghost begun: { Begun }
-    requires closed { IsClosed M.outside begun closed }
-    requires lists { HasLists closed lists }
-    ensures gives_back { PartGivesBack closed result }
-    ensures joins { PartJoins M.outside begun closed result }
+pub(crate) fn part<M: Media, I, W>(closed: Closed<M, I, W>, lists: RunLists) -> Ended<M, I, W>
+    ghost on: { Asked M I }
+    requires closed { IsClosed M.outside on closed }
+    requires lists { HasLists on lists }
+    ensures ended { IsEnded on closed result }
+    ensures genuine { EndsGenuine M.outside on result }
+    ensures acks { Whole result.acks }
 {
     let Closed {
-        closing,
-        master,
-        journal,
-        acks,
+        ending,
+        stopped,
         faults,
     } = closed;
-    let Closing {
+    let Ending {
         edition,
         butler,
         ends,
-    } = closing;
-    let RunLists {
-        mut rings,
-        mut edits,
-    } = lists;
+    } = ending;
+    let Stopped {
+        input,
+        master,
+        journal,
+        acks,
+    } = stopped;
+    let RunLists { rings, mut edits } = lists;
     copy_edits(&mut edits, &edition);
-    let (media, track_ends, to_control) = taken_apart(butler, ends);
-    join_all(&mut rings, track_ends);
-    let acks = rejoin(to_control, acks);
+    let ButlerParts {
+        media,
+        files: _,
+        ends: theirs,
+    } = butler.parts();
+    let joined = join_ends(rings, ends, theirs, acks);
+    let JoinedRings { tracks, acks } = joined;
     Ended {
         media,
+        input,
         master,
         journal,
         edits,
-        rings,
+        rings: tracks,
         acks,
         faults,
     }

@@ -1,9 +1,9 @@
 //! The lists that a run leaves, with room for all that they will hold.
 ghost use Rattle.std.specs.Prelude.{◌≡◌, ◌≤◌, [], IfOk};
-ghost use Rattle.engine_core.specs.Starting.{no_lists};
+ghost use Rattle.engine_core.specs.Finishing.{no_lists};
 
 use edition_log::Edition;
-use plain_process::RingsList;
+use run_rings::RingsList;
 use ses_io::{FixedList, NoMemory};
 use ses_units::limits::EDITS;
 use session_model::EditList;

@@ -1,52 +1,56 @@
-//! A run from the header of its master to its last block.
-ghost use Rattle.std.specs.Prelude.{◌≡◌, true};
-ghost use Rattle.plain_process.specs.Made.{header_bytes, silent_bytes};
-ghost use Rattle.engine_core.specs.Begun.{Begun};
-ghost use Rattle.engine_core.specs.RunInvariant.{IsUnderWay, IsFresh, IsPerforming, MasterGets, Makes};
+//! An export from the header of its master to the end of it.
+ghost use Rattle.std.specs.Prelude.{◌≡◌, ◌≤◌, true, false, length};
+ghost use Rattle.engine_core.specs.Asked.{Asked};
+ghost use Rattle.engine_core.specs.RunInvariant.{IsUnderWay, Makes};
+ghost use Rattle.engine_core.specs.Performed.{IsFresh, IsPerformed};
 
 use crate::answers::failed;
 use crate::serial::Run;
-use ses_io::{Media, Sink};
+use master_blocks::the_master_is_its_blocks;
+use ses_io::{Media, Sink, Source};
 
-impl<M: Media, W: Sink> Run<M, W> {
+impl<M: Media, I: Source, W: Sink> Run<M, I, W> {
     // Writes the master's header.
-    fn begin(self) -> Run<M, W>
-        ghost begun: { Begun }
-        requires { IsUnderWay M.outside W.outside begun self }
-        ensures under_way { IsUnderWay M.outside W.outside begun result }
-        ensures gets { MasterGets W.outside (header_bytes self.core.process) self result }
+    fn begin(self) -> Run<M, I, W>
+        ghost on: { Asked M I }
+        requires under_way { IsUnderWay M.outside I.outside W.outside on false self }
+        requires fresh { IsFresh W.outside on self }
+        ensures under_way { IsUnderWay M.outside I.outside W.outside on true result }
+        ensures makes { Makes 0 self result }
     {
         let mut run = self;
-        let answer = run.core.process.begin();
+        let answer = run.pair.begin();
         run.faults.master = failed(answer, run.faults.master);
         run
     }
 
-    // Writes the silence of the cycles that weren't made, unless a write has failed.
-    fn silence(self) -> Run<M, W>
-        ghost begun: { Begun }
-        requires { IsUnderWay M.outside W.outside begun self }
-        ensures under_way { IsUnderWay M.outside W.outside begun result }
-        ensures gets { MasterGets W.outside (silent_bytes self.core.process) self result }
-        ensures kept { self.faults.master ≡ true → result ≡ self }
+    // Writes the master's end, unless a write has failed.
+    fn end(self) -> Run<M, I, W>
+        ghost on: { Asked M I }
+        requires under_way { IsUnderWay M.outside I.outside W.outside on true self }
+        requires most { length self.pair.process.journal.items ≤ on.cycles }
+        requires all { self.faults.master ≡ false → length self.pair.process.journal.items ≡ on.cycles }
+        ensures { IsPerformed M.outside I.outside W.outside on result }
     {
+        // header, blocks and end are the master's file
+        the_master_is_its_blocks();
         if self.faults.master {
             return self;
         }
         let mut run = self;
-        let answer = run.core.process.silence();
+        let answer = run.pair.silence();
         run.faults.master = failed(answer, run.faults.master);
         run
     }
 
-    /// All cycles, those before a write of the master failed. Header and blocks are written.
-    pub(crate) fn perform(self, cycles: u32) -> Run<M, W>
-        ghost begun: { Begun }
-        requires under_way { IsUnderWay M.outside W.outside begun self }
-        requires fresh { IsFresh W.outside begun cycles self }
-        ensures performing { IsPerforming M.outside W.outside begun result }
-        ensures makes { Makes M.outside cycles self result }
+    /// All cycles, those before a write of the master failed. Header, blocks and end are written.
+    pub(crate) fn perform(self, cycles: u32) -> Run<M, I, W>
+        ghost on: { Asked M I }
+        requires under_way { IsUnderWay M.outside I.outside W.outside on false self }
+        requires fresh { IsFresh W.outside on self }
+        requires asked { on.cycles ≡ cycles }
+        ensures { IsPerformed M.outside I.outside W.outside on result }
     {
-        self.begin().play(cycles).silence()
+        self.begin().play(cycles).end()
     }
 }

@@ -16,7 +16,7 @@ use Rattle.engine_laws.proofs.GrowLemmas.{ordered_stays}
 use Rattle.engine_laws.proofs.LawfulLemmas.{lawful_parts, fits_parts, lawful_stays}
 use Rattle.engine_laws.proofs.NumberLemmas.{count_rises, count_stays}
 use Rattle.engine_laws.proofs.OlderLemmas.{backed_grows, heard_grows}
-use Rattle.engine_laws.proofs.PlainSessionLemmas.{item_at}
+use Rattle.engine_laws.proofs.ListLemmas.{item_at}
 
 -- ---- more is received
 

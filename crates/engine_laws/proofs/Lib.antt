@@ -18,8 +18,6 @@ pub mod EditionLemmas
 pub mod LawfulLemmas
 pub mod PlainLemmas
 pub mod PlayedLemmas
-pub mod PlainRouteLemmas
-pub mod PlainSessionLemmas
 pub mod WideLemmas
 pub mod MixedLemmas
 pub mod JournalInvariantLemmas
@@ -31,5 +29,4 @@ pub mod LooksLemmas
 pub mod MadeLemmas
 pub mod HeldLemmas
 pub mod SerialLemmas
-pub mod MasterLemmas
 pub mod Laws

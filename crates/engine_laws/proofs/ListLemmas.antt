@@ -1,6 +1,6 @@
 -- Tests of whole lists.
-use Rattle.std.proofs.Common.{◌≡◌, ℕ, ◌≤◌, List, [], ◌∷◌, refl, arith}
-use Rattle.std.specs.Prelude.{Bool, true, false, ◌||◌, not, nat_lt, nat_le, nat_eq, if◌then◌else◌, Option, Some, None}
+use Rattle.std.proofs.Common.{◌≡◌, ℕ, zero, suc, ◌<◌, ◌≤◌, List, [], ◌∷◌, length, refl, arith}
+use Rattle.std.specs.Prelude.{Bool, true, false, ◌||◌, not, nat_lt, nat_le, nat_eq, if◌then◌else◌, Option, Some, None, slice_get}
 use Rattle.std.specs.List.{list_all}
 use Rattle.std.proofs.lemmas.Bool.{and_parts, and_from, lt-ltb, le-leb, or_left, or_right, eq-eqb, not_from_false}
 use Rattle.engine_model.specs.Due.{greater, greatest, past}
@@ -43,3 +43,9 @@ found_step p x xs (Some y) true e f = found_greater p x xs y (nat_le x y) e refl
 pub found : (p : ℕ → Bool) (xs : List ℕ) → Found p xs (greatest p xs)
 found p [] = refl
 found p (x ∷ xs) = found_step p x xs (greatest p xs) (p x) refl (found p xs)
+
+-- there is an item at each place within
+pub item_at : {X : Type 0} (xs : List X) (i : ℕ) → i < length xs → (x : X) × (slice_get xs i ≡ Some x)
+item_at [] i lt = absurd (omega arith)
+item_at (x ∷ xs) zero lt = (x, refl)
+item_at (x ∷ xs) (suc i) lt = item_at xs i (omega arith)

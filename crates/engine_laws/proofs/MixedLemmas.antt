@@ -25,7 +25,7 @@ use Rattle.engine_model.specs.Played.{Samples, piece_samples, IsGenuine, IsGenui
 use Rattle.engine_model.specs.Mixed.{is_block, newest_samples, received_sample, mixed_at, mixed_in}
 use Rattle.engine_laws.specs.PlayedLaws.{GenuinePiecesMakeTheBlock, is_of, is_of_track, IsOfTrack}
 use Rattle.engine_model.specs.Editions.{edition}
-use Rattle.engine_laws.proofs.PlainSessionLemmas.{item_at}
+use Rattle.engine_laws.proofs.ListLemmas.{item_at}
 use Rattle.engine_laws.proofs.FixedLemmas.{many_tracks, many_routes, channels_stay}
 use Rattle.engine_laws.proofs.PlayedLemmas.{fixed_stands}
 use Rattle.engine_laws.proofs.WideLemmas.{route_seen, channels_seen, leads_wide, track_place}

@@ -1,22 +1,18 @@
--- What is said of pieces when edits are made and more edits come, and of the master of a plain session.
-use Rattle.std.specs.Prelude.{◌≡◌, ℕ, zero, suc, ◌-◌, ◌*◌, ◌≤◌, ℤ, pos, ◌+ℤ◌, Bool, true, ◌==◌, List, ◌++◌, length, map, replicate, slice_get, Some, All}
+-- What is said of pieces when edits are made and more edits come.
+use Rattle.std.specs.Prelude.{◌≡◌, ℕ, ◌-◌, ◌≤◌, ℤ, Bool, true, ◌==◌, List, ◌++◌, length, map, slice_get, Some, All}
 use Rattle.sound_model.specs.Regions.{Sounds}
 use Rattle.session_model.specs.declared.session.Session.{Session}
 use Rattle.session_model.specs.declared.edit.Edit.{Edit}
-use Rattle.session_model.specs.Views.{track_regions, routes_of}
+use Rattle.session_model.specs.Views.{track_regions}
 use Rattle.session_model.specs.Valid.{IsValid}
-use Rattle.sound_model.specs.Numbers.{clip}
-use Rattle.sound_model.specs.Routes.{master_sample}
-use Rattle.engine_model.specs.PlainSession.{is_plain}
 use Rattle.engine_model.specs.Edits.{playlist_edition, generation}
 use Rattle.engine_model.specs.Editions.{edition}
 use Rattle.engine_model.specs.Items.{Kind, Item, Piece, Settled, Blank}
 use Rattle.engine_model.specs.Journal.{Take, Entry}
 use Rattle.engine_model.specs.Cycle.{entry_of}
 use Rattle.engine_model.specs.Mixed.{mixed}
-use Rattle.std.specs.List.{list_all, flat_map}
-use Rattle.engine_model.specs.Played.{Samples, samples_of, IsGenuine, IsGenuineAs, block, master_file, master_form}
-use Rattle.sound_model.specs.Wav.{header, sound_bytes}
+use Rattle.std.specs.List.{list_all}
+use Rattle.engine_model.specs.Played.{Samples, samples_of, IsGenuine, IsGenuineAs, block}
 
 -- A track's playlist in an edition is the one that the last edit of it left.
 abbrev pub PlaylistsStandSinceTheirEdit : Type 0
@@ -44,16 +40,6 @@ GenuineStays = (sounds : Sounds) (session : Session) (edits more : List Edit) (k
     IsGenuineAs session edits (samples_of sounds session edits) kind block →
     IsGenuineAs session (edits ++ more) (samples_of sounds session (edits ++ more)) kind block
 
--- the samples of so many tracks from track t on, together
-abbrev pub total : (ℕ → ℤ) → ℕ → ℕ → ℤ
-total sample t zero = pos 0
-total sample t (suc many) = sample t +ℤ total sample (suc t) many
-
--- The master of a plain session gives the clip of the sum of its tracks' clips.
-abbrev pub PlainMasterSums : Type 0
-PlainMasterSums = (session : Session) (samples : ℕ → ℕ → ℤ) (x : ℕ) → IsValid session → is_plain session ≡ true →
-    master_sample (routes_of session) samples x 0 ≡ clip (total (λ t. clip (samples t 0)) 0 (length session.tracks.items))
-
 -- What was received of a track: all of it names the track, and is genuine.
 pub record IsOfTrack (session : Session) (edits : List Edit) (samples : Samples) (t : ℕ) (items : List Item) : Type 0 where
   pub named : list_all (is_of t) items ≡ true
@@ -65,14 +51,3 @@ GenuinePiecesMakeTheBlock = (session : Session) (edits : List Edit) (samples : S
     IsValid (edition session edits r).session → length tracks ≡ length session.tracks.items → length takes ≡ length tracks →
     ((t : ℕ) (items : List Item) → slice_get tracks t ≡ Some items → IsOfTrack session edits samples t items) →
     let e = entry_of session edits before (map (map (λ i. i.kind)) tracks) takes r in mixed session edits tracks e ≡ block session edits samples e
-
--- The bytes of an entry's block, of 16 bits.
-abbrev pub block_bytes : Session → List Edit → Samples → Entry → List ℕ
-block_bytes session edits samples e = sound_bytes 16 (block session edits samples e)
-
--- The file of a plain session's master is its header, the bytes of each entry's block in their order, and zeros for the cycles
--- that weren't made.
-abbrev pub MasterFileIsItsBlocks : Type 0
-MasterFileIsItsBlocks = (session : Session) (edits : List Edit) (samples : Samples) (cycles : ℕ) (journal : List Entry) → IsValid session → is_plain session ≡ true → length journal ≤ cycles →
-    master_file session edits samples cycles journal ≡ header (master_form session) (cycles * session.block * 2)
-    ++ flat_map (block_bytes session edits samples) journal ++ replicate ((cycles - length journal) * session.block * 2) 0

@@ -36,10 +36,7 @@ pub use order::{
     each_follows, entering_keeps, marks_bind, newest_never_falls_along, one_more_is_ordered,
     received_is_ordered, seeing_more_keeps, sending_keeps,
 };
-pub use played::{
-    genuine_pieces_make_the_block, genuine_stays, master_file_is_its_blocks, plain_master_sums,
-    playlists_stand_since_their_edit,
-};
+pub use played::{genuine_pieces_make_the_block, genuine_stays, playlists_stand_since_their_edit};
 pub use serial::{
     due_is_not_held, few_are_sent, none_is_held_later, nothing_due_is_ready, ready_entry_is_plain,
 };

@@ -10,5 +10,4 @@ mod LineVectors
 mod GrantVectors
 mod MadeVectors
 mod SoundVectors
-mod PlainSessionVectors
 mod MixedVectors

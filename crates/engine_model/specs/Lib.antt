@@ -22,4 +22,3 @@ pub mod Lines
 pub mod Replies
 pub mod Takes
 pub mod Waited
-pub mod PlainSession

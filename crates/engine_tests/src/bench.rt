@@ -1,13 +1,4 @@
 //! What several subjects stand on: media in memory, sessions that open, and edits that may follow.
-ghost use Rattle.std.specs.Prelude.{◌≡◌, length, IfSome};
-ghost use mathlib.Core.List.{IsPrefix};
-ghost use Rattle.session_model.specs.declared.session.Session.{Session as Opening};
-ghost use Rattle.edition_log.specs.Entered.{IsAsOpened};
-ghost use Rattle.session_opening.specs.Answers.{IsLoaded};
-ghost use Rattle.engine_tests.specs.Bench.{IsOpening};
-
-pub(crate) mod rings;
-
 use edition_log::{Edition, Refusal};
 use ses_io::{MemMedia, NoMemory};
 use session_model::{Edit, Key, Part, Place, SessionRefusal};
@@ -72,41 +63,24 @@ pub(crate) fn row_holds<R: Abort>(rt: &R, at: usize, right: bool) {
     assert!(rt; right, "row {at}");
 }
 
-// What the session `s.toml` opens to, where it has so many tracks.
-fn loaded(alloc: Global, media: &mut MemMedia, tracks: usize) -> Option<Loaded>
-    ensures loaded { IfSome result IsLoaded }
-    ensures tracks { IfSome result (λ o. length o.edition.session.tracks.items ≡ tracks) }
-{
-    let Ok(loaded) = open(alloc, media, &EXPORT) else {
-        return None;
-    };
-    let session = loaded.edition.session();
-    if session.tracks.len() != tracks {
-        return None;
-    }
-    Some(loaded)
-}
-
-/// Edition 0 of that session.
-pub(crate) fn opening(alloc: Global, files: &[File], tracks: usize) -> Option<Edition>
-    ensures opening { IfSome result IsOpening }
-    ensures tracks { IfSome result (λ e. length e.session.tracks.items ≡ tracks) }
-{
+/// Edition 0 of the session `s.toml`.
+pub(crate) fn opening(alloc: Global, files: &[File]) -> Option<Edition> {
     let Ok(mut media) = media_of(alloc, files) else {
         return None;
     };
-    let Loaded {
-        edition,
-        sources: _,
-    } = loaded(alloc, &mut media, tracks)?;
-    Some(edition)
+    match open(alloc, &mut media, &EXPORT) {
+        Ok(
+            Loaded {
+                edition,
+                sources: _,
+            },
+        ) => Some(edition),
+        Err(_) => None,
+    }
 }
 
 /// Takes an edit in, where one may follow.
-pub(crate) fn carry_out(e: &mut Edition, edit: Edit) -> Option<Result<u32, Refusal>>
-    ensures stays { (s : Opening) → IsAsOpened s e.old → IsAsOpened s e.new }
-    ensures more { IsPrefix e.old.edits e.new.edits }
-{
+pub(crate) fn carry_out(e: &mut Edition, edit: Edit) -> Option<Result<u32, Refusal>> {
     match edit {
         Edit::Roll | Edit::Locate { .. } if !e.ended() && !e.transport().quit => {
             Some(e.apply(&edit))

@@ -94,7 +94,7 @@ fn holds(alloc: Global, e: &mut Edition, subject: &Subject) -> Result<bool, NoMe
 }
 
 fn is_right(alloc: Global, subject: &Subject) -> Result<bool, NoMemory> {
-    match opening(alloc, &[MASTER_ALONE], 0) {
+    match opening(alloc, &[MASTER_ALONE]) {
         Some(mut e) => holds(alloc, &mut e, subject),
         None => Err(NoMemory),
     }

@@ -31,7 +31,6 @@ fn are_numbered(takes: Name) -> bool {
         (Status::NoMemory, 13),
         (Status::TakesExist(takes), 14),
         (Status::ControlTooLong, 17),
-        (Status::NotBuilt, 20),
     ];
     for (status, number) in &table {
         if status.number() != *number {

@@ -1,4 +1,4 @@
-//! Values from outside, worked out beside the code: for editions and journals, the process and whole runs.
+//! Values from outside, worked out beside the code: for editions and journals, what is opened, and whole runs.
 #![tactic(auto)]
 
 #[cfg(test)]
@@ -9,7 +9,5 @@ mod editions;
 mod journals;
 #[cfg(test)]
 mod plans;
-#[cfg(test)]
-mod process_turns;
 #[cfg(test)]
 mod runs;

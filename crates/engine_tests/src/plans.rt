@@ -29,7 +29,6 @@ fn refusal_of(answer: &Answer) -> Option<Unopened> {
         Answer::Opens => None,
         Answer::Absent => Some(Unopened::Session(SessionRefusal::Absent)),
         Answer::BlockRange => Some(Unopened::Session(block_range())),
-        Answer::NotBuilt => Some(Unopened::NotBuilt),
         Answer::Source(why) => refused_source(why),
         Answer::ReadFault => Some(Unopened::ReadFault),
     }

@@ -1,17 +1,24 @@
 //! Worked runs over a world in memory.
 mod checked;
 mod extensible;
+mod layered;
 mod migrated;
+mod mixed;
+mod of_bits;
 mod played;
 mod refused;
 mod rendered;
 mod row;
+mod stems;
 
 use crate::bench::{block_range, failing_media, row_holds};
 use checked::CHECKED;
 use cycle_journal::{Entry, Note, State};
 use extensible::EXTENSIBLE;
-use migrated::{MIGRATED, UNBUILT};
+use layered::LAYERED;
+use migrated::MIGRATED;
+use mixed::MIXED;
+use of_bits::OF_BITS;
 use played::PLAYED;
 use refused::REFUSED;
 use rendered::RENDERED;
@@ -64,7 +71,6 @@ fn status_of(ends: &Ends) -> Status {
         Ends::ReadFault => Status::ReadFault,
         Ends::MasterFault => Status::MasterFault,
         Ends::OutFault => Status::OutFault,
-        Ends::NotBuilt => Status::NotBuilt,
     }
 }
 
@@ -143,7 +149,13 @@ where
 
 #[test]
 fn each_export_leaves_what_was_worked_out(rt: HostRuntime) {
-    for (at, row) in PLAYED.iter().enumerate() {
+    for (at, row) in PLAYED
+        .iter()
+        .chain(LAYERED)
+        .chain(OF_BITS)
+        .chain(MIXED)
+        .enumerate()
+    {
         row_holds(&rt, at, is_right(&rt, rt.alloc(), row) == Ok(true));
     }
 }
@@ -171,7 +183,13 @@ fn each_refused_command_ends_with_its_status_and_its_line(rt: HostRuntime) {
 
 #[test]
 fn each_export_of_a_migrated_session_leaves_the_same(rt: HostRuntime) {
-    for (at, row) in PLAYED.iter().chain(UNBUILT).enumerate() {
+    for (at, row) in PLAYED
+        .iter()
+        .chain(LAYERED)
+        .chain(OF_BITS)
+        .chain(MIXED)
+        .enumerate()
+    {
         if row.bad_reads.is_empty() && row.bad_writes.is_empty() {
             let is_right = is_right_migrated(&rt, rt.alloc(), row);
             row_holds(&rt, at, is_right == Ok(true));

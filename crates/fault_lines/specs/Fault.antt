@@ -2,7 +2,7 @@
 use Rattle.std.specs.Prelude.{ℕ, List, [], ◌++◌, codes, decimal, Option, Some, None}
 use Rattle.std.specs.Option.{option_map_or}
 use Rattle.cycle_journal.specs.declared.status.Status.{Status}
-use Rattle.cycle_journal.specs.declared.status.Status.TheVariants.{Done, Usage, Session, SourceFile, ReadFault, WriteFault, InputFault, MasterFault, ControlFault, OutFault, Refuted, BadReport, BadInput, NoMemory, TakesExist, ControlTooLong, NotBuilt}
+use Rattle.cycle_journal.specs.declared.status.Status.TheVariants.{Done, Usage, Session, SourceFile, ReadFault, WriteFault, InputFault, MasterFault, ControlFault, OutFault, Refuted, BadReport, BadInput, NoMemory, TakesExist, ControlTooLong}
 use Rattle.fault_lines.specs.Session.{session_words}
 use Rattle.fault_lines.specs.File.{file_words, input_words}
 
@@ -24,7 +24,6 @@ fault_words (BadInput why) = Some (codes "input " ++ input_words why)
 fault_words NoMemory = Some (codes "no-memory")
 fault_words (TakesExist takes) = Some (codes "takes-exist " ++ takes)
 fault_words ControlTooLong = Some (codes "control-too-long")
-fault_words NotBuilt = Some (codes "not-built")
 
 -- a line of an error
 abbrev pub error_line : List ℕ → List ℕ

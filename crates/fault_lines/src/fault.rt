@@ -35,7 +35,6 @@ impl Line {
             Status::NoMemory => Some(self.word("no-memory")),
             Status::TakesExist(takes) => Some(self.word("takes-exist ").name(takes)),
             Status::ControlTooLong => Some(self.word("control-too-long")),
-            Status::NotBuilt => Some(self.word("not-built")),
         }
     }
 }

@@ -13,7 +13,7 @@ const fn at(part: Part, row: u32, item: u32) -> Place {
     Place { part, row, item }
 }
 
-const RUNS: [(Status, &str); 13] = [
+const RUNS: [(Status, &str); 12] = [
     (Status::Done, ""),
     (Status::Usage, "error usage\n"),
     (Status::ReadFault, "error read-fault\n"),
@@ -29,7 +29,6 @@ const RUNS: [(Status, &str); 13] = [
     ),
     (Status::NoMemory, "error no-memory\n"),
     (Status::ControlTooLong, "error control-too-long\n"),
-    (Status::NotBuilt, "error not-built\n"),
 ];
 
 fn sessions() -> [(SessionRefusal, &'static str); 10] {

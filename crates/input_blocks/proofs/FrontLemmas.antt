@@ -11,7 +11,7 @@ use Rattle.wav_codec.specs.declared.info.WavInfo.{WavInfo}
 use Rattle.audio_source.specs.Spans.{IsPieceAt}
 use Rattle.audio_source.proofs.ByteLaws.{take-take, frames_of_bytes, bytes_fit}
 use Rattle.input_blocks.specs.Front.{IsFront, HasRoom}
-use Rattle.input_blocks.specs.State.{LosesUpTo}
+use Rattle.input_blocks.specs.State.{LosesFewer}
 
 pub after_a_fault : {T E P : Type 0} (r : Result T E) → P → OnErr r P
 after_a_fault (Ok x) p = tt
@@ -57,5 +57,5 @@ further_on from many channels width asked start left after place rest long =
     let sum : from * (channels * width) + asked ≡ (from + many) * (channels * width) = grind (arith, long) in
     rest ∙ ap (drop asked) place ∙ drop-drop asked (from * (channels * width)) start ∙ ap (λ k. drop k start) sum
 
-pub loses_of : (few most : ℕ) (before after : List ℕ) → few ≡ most → LosesUpTo few before after → LosesUpTo most before after
-loses_of few most before after e lost = (lost.0, subst (λ k. lost.0 ≤ k) e lost.1, lost.2)
+pub loses_of : (few most : ℕ) (before after : List ℕ) → few ≡ most → LosesFewer few before after → LosesFewer most before after
+loses_of few most before after e lost = (lost.0, subst (λ k. lost.0 < k) e lost.1, lost.2)

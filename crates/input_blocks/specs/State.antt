@@ -1,5 +1,5 @@
 -- What contracts see of the input of a run, and how far it was read.
-use Rattle.std.specs.Prelude.{◌≡◌, ℕ, suc, ◌-◌, ◌*◌, ◌≤◌, ℤ, List, drop, min}
+use Rattle.std.specs.Prelude.{◌≡◌, ℕ, suc, ◌-◌, ◌*◌, ◌<◌, ℤ, List, drop, min}
 use Rattle.sound_model.specs.Wav.{align}
 use Rattle.ses_io.specs.Outside.{SourceOutside}
 use Rattle.session_model.specs.Frames.{interleaved}
@@ -42,12 +42,14 @@ next_block at s = let channels = s.stream.form.channels in
 abbrev pub bytes_due : {I : Type 0} → InputState I → ℕ
 bytes_due s = min (s.stream.frames - s.done) s.block * align s.stream.form
 
--- this input lost its first bytes, at most so many
-abbrev pub LosesUpTo : ℕ → List ℕ → List ℕ → Type 0
-LosesUpTo most before after = (n : ℕ) × (n ≤ most) × (after ≡ drop n before)
+-- this input lost its first bytes, fewer than so many
+abbrev pub LosesFewer : ℕ → List ℕ → List ℕ → Type 0
+LosesFewer most before after = (n : ℕ) × (n < most) × (after ≡ drop n before)
 
--- A read failed. What it had taken of the next block is lost.
+-- A read failed. What it had taken of the next block is lost: less than the block.
 pub record IsCutShort {I : Type 0} (outside : SourceOutside I) (old new : InputState I) : Type 0 where
-  pub lost : outside.tells → LosesUpTo (bytes_due old) (outside.left old.input) (outside.left new.input)
+  -- some was asked
+  pub asked : 0 < bytes_due old
+  pub lost : outside.tells → LosesFewer (bytes_due old) (outside.left old.input) (outside.left new.input)
   pub done : new.done ≡ old.done
   pub samples : new.samples ≡ old.samples

@@ -6,7 +6,7 @@ ghost use Rattle.wav_codec.specs.Info.{form_read, IsFound};
 ghost use Rattle.wav_codec.specs.Samples.{samples_of};
 ghost use Rattle.session_model.specs.Frames.{interleaved, IsSample};
 ghost use Rattle.input_blocks.specs.Rest.{stream_of, rest_sound};
-ghost use Rattle.input_blocks.specs.State.{LosesUpTo};
+ghost use Rattle.input_blocks.specs.State.{LosesFewer};
 ghost use Rattle.input_blocks.specs.Front.{IsFront, HasRoom};
 
 use ses_io::{Failed, Source, read_full};
@@ -38,7 +38,8 @@ fn fetch<I: Source>(input: &mut I, info: &WavInfo, buf: &mut [u8]) -> Result<usi
     ensures rest { I.outside.tells → OnOk result
         (I.outside.left input.new ≡ drop (length buf.old) (I.outside.left input.old)) }
     ensures lost { I.outside.tells → OnErr result
-        (LosesUpTo (length buf.old) (I.outside.left input.old) (I.outside.left input.new)) }
+        (LosesFewer (length buf.old) (I.outside.left input.old) (I.outside.left input.new)) }
+    ensures asked { OnErr result (0 < length buf.old) }
     ensures none { length buf.old ≡ 0 → input.new ≡ input.old }
     ensures cause { HasCause (I.outside.faults input.old) (I.outside.faults input.new) result }
 {
@@ -68,10 +69,13 @@ pub(crate) fn fill<I: Source>(
         (rest_sound (stream_of info.now) start) info.now.channels from (length out.old)) }
     ensures range { OnOk result (All IsSample out.new) }
     ensures kept { OnErr result (out.new ≡ out.old) }
-    ensures lost { I.outside.tells → OnErr result (LosesUpTo
+    ensures lost { I.outside.tells → OnErr result (LosesFewer
         (min (info.now.frames - from) (length out.old / info.now.channels)
         * align (form_read info.now))
         (I.outside.left input.old) (I.outside.left input.new)) }
+    ensures asked { OnErr result
+        (0 < min (info.now.frames - from) (length out.old / info.now.channels)
+        * align (form_read info.now)) }
     ensures none { from ≡ info.now.frames → input.new ≡ input.old }
     ensures cause { HasCause (I.outside.faults input.old) (I.outside.faults input.new) result }
 {

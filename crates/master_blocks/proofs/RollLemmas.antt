@@ -20,7 +20,7 @@ use Rattle.engine_model.specs.Mixed.{mixed_at, mixed_in, received_sample}
 use Rattle.engine_model.specs.Played.{master_channels}
 use Rattle.engine_model.specs.Transport.{place, place_from, place_of}
 use Rattle.engine_laws.proofs.FixedLemmas.{many_tracks, many_routes, channels_stay}
-use Rattle.engine_laws.proofs.PlainSessionLemmas.{item_at}
+use Rattle.engine_laws.proofs.ListLemmas.{item_at}
 use Rattle.engine_laws.proofs.WideLemmas.{route_seen, channels_seen, leads_wide, track_place}
 use Rattle.locate_loop.specs.declared.transport.Transport.{Transport}
 use Rattle.locate_loop.specs.declared.transport.Wrap.{Wrap}

@@ -17,7 +17,7 @@ use Rattle.engine_model.specs.Journal.{rolled, is_rolling}
 use Rattle.engine_model.specs.Cycle.{entry_of}
 use Rattle.engine_model.specs.Made.{fit_takes}
 use Rattle.engine_model.specs.Mixed.{mixed_in}
-use Rattle.engine_laws.proofs.PlainSessionLemmas.{item_at}
+use Rattle.engine_laws.proofs.ListLemmas.{item_at}
 use Rattle.machine_model.specs.Events as machine
 use Rattle.edition_log.specs.EditionState as log
 use Rattle.disk_ring.specs.Receiver.{Receiver}

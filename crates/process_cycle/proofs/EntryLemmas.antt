@@ -20,7 +20,7 @@ use Rattle.engine_model.specs.Fits.{records, fits_take, next_take}
 use Rattle.engine_model.specs.Cycle.{notes_of, play_of, state_of}
 use Rattle.engine_model.specs.Made.{fit_takes}
 use Rattle.engine_laws.proofs.FixedLemmas.{many_tracks, channels_stay, fixed_track}
-use Rattle.engine_laws.proofs.PlainSessionLemmas.{item_at}
+use Rattle.engine_laws.proofs.ListLemmas.{item_at}
 use Rattle.engine_laws.proofs.PlayedLemmas.{fixed_stands}
 use Rattle.edition_log.specs.EditionState as log
 use Rattle.edition_log.proofs.PlayLaws.{editions_play_their_places}

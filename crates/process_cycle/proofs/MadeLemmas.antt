@@ -12,7 +12,7 @@ use Rattle.engine_model.specs.Journal.{rolled, is_rolling}
 use Rattle.engine_model.specs.Cycle.{entry_of, notes_of, settled_number, state_of}
 use Rattle.engine_model.specs.Made.{fit_takes}
 use Rattle.engine_laws.proofs.EntryNotesLemmas.{entry_fits}
-use Rattle.engine_laws.proofs.PlainSessionLemmas.{item_at}
+use Rattle.engine_laws.proofs.ListLemmas.{item_at}
 use Rattle.edition_log.specs.EditionState as log
 use Rattle.disk_ring.specs.Sender.{Sender}
 use Rattle.piece_item.specs.declared.take_block.TakeBlock.{TakeBlock}

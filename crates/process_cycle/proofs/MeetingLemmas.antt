@@ -5,7 +5,7 @@ use Rattle.std.proofs.lemmas.Option.{slice_get_within, get_or_from_slice_get}
 use Rattle.ses_io.specs.Outside.{SourceOutside, SinkOutside}
 use Rattle.engine_model.specs.Journal.{Entry}
 use Rattle.engine_model.specs.Takes.{Input}
-use Rattle.engine_laws.proofs.PlainSessionLemmas.{item_at}
+use Rattle.engine_laws.proofs.ListLemmas.{item_at}
 use Rattle.capture_flush.specs.Blocks as captured
 use Rattle.session_model.specs.declared.session.Session.{Session}
 use Rattle.disk_ring.specs.Sender.{Sender}

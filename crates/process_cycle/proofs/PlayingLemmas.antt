@@ -18,7 +18,7 @@ use Rattle.engine_model.specs.Journal.{Entry, rolled}
 use Rattle.engine_laws.specs.MadeLaws.{LooksStand}
 use Rattle.engine_laws.proofs.NumberLemmas.{count_rises, count_stays}
 use Rattle.engine_laws.proofs.LooksLemmas.{looks_stand_while_receiving, looks_stand_while_editing}
-use Rattle.engine_laws.proofs.PlainSessionLemmas.{item_at}
+use Rattle.engine_laws.proofs.ListLemmas.{item_at}
 use Rattle.machine_laws.proofs.MadeFacts.{made_low}
 use Rattle.edition_log.specs.EditionState.{EditionState as Edition, IsEditionOf}
 use Rattle.edition_log.proofs.PlayLaws.{editions_play_their_places}

@@ -21,7 +21,7 @@ use Rattle.engine_laws.specs.MadeLaws.{LooksStand}
 use Rattle.engine_laws.proofs.JournalInvariantLemmas.{get_new}
 use Rattle.engine_laws.proofs.LooksLemmas.{looks_stand_while_receiving, looks_stand_while_editing, looks_stand_with_its_entry}
 use Rattle.engine_laws.proofs.MadeLemmas.{made_goes_on, made_stays}
-use Rattle.engine_laws.proofs.PlainSessionLemmas.{item_at}
+use Rattle.engine_laws.proofs.ListLemmas.{item_at}
 use Rattle.machine_model.specs.Events as machine
 use Rattle.machine_laws.proofs.MadeFacts.{made_low}
 use Rattle.disk_ring.specs.Receiver.{Receiver, GoesOnOut}

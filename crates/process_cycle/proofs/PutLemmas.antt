@@ -9,7 +9,7 @@ use Rattle.engine_model.specs.Mixed.{newest_samples}
 use Rattle.disk_ring.specs.Receiver.{Receiver}
 use Rattle.piece_item.specs.declared.item.Item.{Item}
 use Rattle.session_model.specs.declared.session.Session.{Session}
-use Rattle.engine_laws.proofs.PlainSessionLemmas.{item_at}
+use Rattle.engine_laws.proofs.ListLemmas.{item_at}
 use Rattle.route_mix.specs.Blocks.{silence}
 use Rattle.route_mix.specs.Desks.{DeskState}
 use Rattle.master_blocks.specs.State.{MasterState, IsMasterOf}

@@ -71,7 +71,7 @@ pub record ReadsBlock {I W : Type 0} (inputs : SourceOutside I) (at : Playing) (
   pub ended : old.input.done ≡ old.input.stream.frames → new.input.input ≡ old.input.input
   pub no_fault : inputs.faults new.input.input ≡ inputs.faults old.input.input
 
--- the read failed, and its count rose: no more than a block was lost
+-- the read failed, and its count rose: less than a block was lost
 pub record LosesBlock {I W : Type 0} (inputs : SourceOutside I) (old new : ProcessState I W) : Type 0 where
   pub short : IsCutShort inputs old.input new.input
   pub stream : new.input.stream ≡ old.input.stream

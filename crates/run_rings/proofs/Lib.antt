@@ -1,4 +1,4 @@
 -- Rings that are made, joined again, and fit those that get their ends.
 mod RingLemmas
 mod JoiningLemmas
-mod LawLemmas
+pub mod LawLemmas

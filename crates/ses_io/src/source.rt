@@ -2,7 +2,7 @@
 ghost use Rattle.std.specs.Prelude.{◌≡◌, ℕ, ◌<◌, ◌≤◌, min, List, [], length, IfOk, OnErr};
 ghost use Rattle.ses_io.specs.Faults.{HasCause};
 ghost use Rattle.ses_io.specs.Outside.{SourceOutside};
-ghost use Rattle.ses_io.specs.Streams.{Takes, TakesSome};
+ghost use Rattle.ses_io.specs.Streams.{Takes, TakesFewer};
 
 use crate::Failed;
 
@@ -33,9 +33,10 @@ pub fn read_full<S: Source>(source: &mut S, buf: &mut [u8]) -> Result<usize, Fai
         → IfOk result (Takes (S.outside.left source.old) (S.outside.left source.new) buf.new) }
     ensures all { S.outside.tells
         → IfOk result (λ n. n ≡ min (length buf.new) (length (S.outside.left source.old))) }
-    ensures some { S.outside.tells
-        → OnErr result (TakesSome (S.outside.left source.old) (S.outside.left source.new) buf.new) }
+    ensures fewer { S.outside.tells
+        → OnErr result (TakesFewer (S.outside.left source.old) (S.outside.left source.new) buf.new) }
     ensures none { length buf.old ≡ 0 → source.new ≡ source.old }
+    ensures asked { OnErr result (0 < length buf.old) }
     ensures cause { HasCause (S.outside.faults source.old) (S.outside.faults source.new) result }
 {
     let mut filled = 0;

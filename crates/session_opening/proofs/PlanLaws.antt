@@ -1,15 +1,14 @@
 -- What is opened can be played, and a source that is refused is the first.
-use Rattle.std.proofs.Common.{◌≡◌, ℕ, refl, ap, ◌∙◌, sym, subst, Bool, true, false, cond, nat_lt, List, length, Option, Some, None}
+use Rattle.std.proofs.Common.{◌≡◌, ℕ, refl, ap, subst, Bool, true, false, cond, nat_lt, List, length, Option, Some, None}
 use Rattle.std.specs.Prelude.{Ok, Err}
 use Rattle.session_model.specs.declared.session.Session.{Session}
 use Rattle.session_model.specs.declared.refusal.SessionRefusal.TheVariants.{TooLong}
 use Rattle.session_model.specs.Valid.{IsValid}
-use Rattle.engine_model.specs.PlainSession.{is_plain}
 use Rattle.session_walk.specs.Section.{Read}
 use Rattle.session_toml.specs.Session.{session}
 use Rattle.session_toml.proofs.SessionLaws.{accepted_is_valid}
 use Rattle.session_opening.specs.Laws.{IsOpen, IsPlayable, FirstOf, OpenIsValid, PlanIsPlayable, RefusedIsFirst}
-use Rattle.session_opening.specs.Plan.{◌>>=◌, Open, Plan, Wrong, SessionRefused, NotBuilt, SourceRefused, text_in, read, plain, read_session, session_in, session_plan, sources_in, plan_of_export}
+use Rattle.session_opening.specs.Plan.{◌>>=◌, Open, Plan, Wrong, SessionRefused, SourceRefused, text_in, read, read_session, session_plan, sources_in, plan_of_export}
 use Rattle.session_opening.proofs.SourceLaws.{each_head, first_of}
 
 -- what came first, and what it went on to
@@ -21,36 +20,23 @@ read_is : (r : Read Session) (s : Session) → read r ≡ Ok s → r ≡ Ok s
 read_is (Ok t) s e = let same : t ≡ s = cc in ap (λ v. Ok v) same
 read_is (Err refusal) s e = absurd cc
 
-plain_is : (t s : Session) → plain t ≡ Ok s → (t ≡ s) × (is_plain t ≡ true)
-plain_is t s e = by (is_plain t) refl e
-  where
-    by : (b : Bool) → is_plain t ≡ b → cond b (Ok t) (Err NotBuilt) ≡ Ok s → (t ≡ s) × (is_plain t ≡ true)
-    by true is e = (cc, is)
-    by false is e = absurd cc
-
 -- the session of a file is that of some bytes
 read_of_bytes : (file : Option (List ℕ)) (s : Session) → read_session file ≡ Ok s → (bytes : List ℕ) × (session bytes ≡ Ok s)
 unfolding read_session
 read_of_bytes file s e = let text = after (text_in file) _ s e in (text.0, read_is (session text.0) s text.2)
 
--- the session of a file is valid and plain
-session_is : (file : Option (List ℕ)) (s : Session) → session_in file ≡ Ok s → IsValid s × (is_plain s ≡ true)
-unfolding session_in
-session_is file s e =
-    let t = after (read_session file) plain s e in
-    let last = plain_is t.0 s t.2 in
-    let text = read_of_bytes file t.0 t.1 in
-    (subst IsValid last.0 (accepted_is_valid text.0 t.0 text.1), ap is_plain (sym last.0) ∙ last.1)
+-- the session of a file is valid
+session_is : (file : Option (List ℕ)) (s : Session) → read_session file ≡ Ok s → IsValid s
+session_is file s e = let text = read_of_bytes file s e in accepted_is_valid text.0 s text.1
 
 pub plan_is_playable : PlanIsPlayable
 unfolding plan_of_export
 plan_is_playable files e o is =
-    let s = after (session_in (files e.session)) _ o is in
+    let s = after (read_session (files e.session)) _ o is in
     let u = after (sources_in files s.0.rate s.0.sources.items) _ o s.2 in
     let K : Plan → Type 0 = λ p. IsPlayable files e p in
     let same : record { session = s.0; from = e.from; cycles = e.cycles } ≡ o = cc in
-    let fit = session_is (files e.session) s.0 s.1 in
-    subst K same (record { session = s.1; from = refl; cycles = refl; valid = fit.0; plain = fit.1; heads = each_head files s.0.rate s.0.sources.items u.1 })
+    subst K same (record { session = s.1; from = refl; cycles = refl; valid = session_is (files e.session) s.0 s.1; heads = each_head files s.0.rate s.0.sources.items u.1 })
 
 pub open_is_valid : OpenIsValid
 unfolding session_plan
@@ -59,25 +45,22 @@ open_is_valid files name s is =
     let u = after (sources_in files t.0.rate t.0.sources.items) _ s t.2 in
     let same : t.0 ≡ s = cc in
     let K : Session → Type 0 = λ r. IsOpen files name r in
-    let text = read_of_bytes (files name) t.0 t.1 in
-    subst K same (record { session = t.1; valid = accepted_is_valid text.0 t.0 text.1; heads = each_head files t.0.rate t.0.sources.items u.1 })
+    subst K same (record { session = t.1; valid = session_is (files name) t.0 t.1; heads = each_head files t.0.rate t.0.sources.items u.1 })
 
 -- nothing is said of a source
 abbrev NoSourceIn : {A : Type 0} → Open A → Type 0
 NoSourceIn (Ok a) = Unit {0}
 NoSourceIn (Err (SessionRefused w)) = Unit {0}
-NoSourceIn (Err NotBuilt) = Unit {0}
 NoSourceIn (Err (SourceRefused n w)) = ⊥
 
 none_then : {A B : Type 0} (r : Open A) (f : A → Open B) → NoSourceIn r → ((a : A) → NoSourceIn (f a)) → NoSourceIn (r >>= f)
 none_then (Ok a) f never later = later a
 none_then (Err (SessionRefused w)) f never later = tt
-none_then (Err NotBuilt) f never later = tt
 none_then (Err (SourceRefused n w)) f never later = never
 
-none_in_session : (file : Option (List ℕ)) → NoSourceIn (session_in file)
-unfolding session_in read_session
-none_in_session file = none_then (read_session file) plain (none_then (text_in file) _ (text file) (λ t. reads (session t))) (λ s. form s (is_plain s))
+none_in_session : (file : Option (List ℕ)) → NoSourceIn (read_session file)
+unfolding read_session
+none_in_session file = none_then (text_in file) _ (text file) (λ t. reads (session t))
   where
     choice : (b : Bool) (x y : Open (List ℕ)) → NoSourceIn x → NoSourceIn y → NoSourceIn (cond b x y)
     choice true x y p q = p
@@ -91,13 +74,9 @@ none_in_session file = none_then (read_session file) plain (none_then (text_in f
     reads (Ok s) = tt
     reads (Err refusal) = tt
 
-    form : (s : Session) (b : Bool) → NoSourceIn (cond b (Ok s) (Err NotBuilt))
-    form s true = tt
-    form s false = tt
-
 pub refused_is_first : RefusedIsFirst
 unfolding plan_of_export
-refused_is_first files e name why is = by_session (session_in (files e.session)) refl is
+refused_is_first files e name why is = by_session (read_session (files e.session)) refl is
   where
     end : Session → Open Plan
     end s = Ok (record { session = s; from = e.from; cycles = e.cycles })
@@ -109,9 +88,9 @@ refused_is_first files e name why is = by_session (session_in (files e.session))
     err_only s (Ok u) e = absurd cc
     err_only s (Err w) e = cc
 
-    by_session : (r : Open Session) → session_in (files e.session) ≡ r → (r >>= rest) ≡ Err (SourceRefused name why) → (s : Session) × FirstOf files e name why s
-    by_session (Ok s) there h = let fit = session_is (files e.session) s there in
-        (s, record { session = there; valid = fit.0; plain = fit.1; first = first_of files s.rate s.sources.items name why (err_only s (sources_in files s.rate s.sources.items) h) })
+    by_session : (r : Open Session) → read_session (files e.session) ≡ r → (r >>= rest) ≡ Err (SourceRefused name why) → (s : Session) × FirstOf files e name why s
+    by_session (Ok s) there h =
+        (s, record { session = there; valid = session_is (files e.session) s there; first = first_of files s.rate s.sources.items name why (err_only s (sources_in files s.rate s.sources.items) h) })
     by_session (Err w) there h = absurd (no_source w (let K : Open Session → Type 0 = λ v. NoSourceIn v in subst K there (none_in_session (files e.session))) cc)
       where
         no_source : (v : Wrong) → NoSourceIn {A = Session} (Err v) → v ≡ SourceRefused name why → ⊥

@@ -2,7 +2,7 @@
 use Rattle.std.proofs.Common.{◌≡◌, ℕ, refl, List, [], ◌∷◌, Option, Some, None, codes}
 use Rattle.std.specs.Prelude.{Err}
 use Rattle.session_model.specs.declared.refusal.SessionRefusal.TheVariants.{Absent}
-use Rattle.session_opening.specs.Plan.{SessionRefused, plan_of_export, read_session, session_in, session_plan}
+use Rattle.session_opening.specs.Plan.{SessionRefused, plan_of_export, read_session, session_plan}
 use Rattle.session_opening.specs.Words.{ToExport, ToMigrate, ToCheck, ToRender, command, positional, export_of, render_of}
 
 -- no files
@@ -86,5 +86,5 @@ unfolding session_plan read_session
 no_file = refl
 
 absent : plan_of_export nothing (record { session = codes "s.toml"; from = 0; cycles = 2 }) ≡ Err (SessionRefused Absent)
-unfolding plan_of_export session_in read_session
+unfolding plan_of_export read_session
 absent = refl

@@ -1,12 +1,11 @@
 -- What each answer says of what is opened, and what ties it to the media's count of failed reads.
-use Rattle.std.specs.Prelude.{◌≡◌, ℕ, ◌≤◌, true, false, List, [], slice_get, Option, Some, None, Result, Ok, Err}
+use Rattle.std.specs.Prelude.{◌≡◌, ℕ, ◌≤◌, false, List, [], slice_get, Option, Some, None, Result, Ok, Err}
 use Rattle.ses_io.specs.Faults.{risen}
 use Rattle.ses_io.specs.Files.{Files}
 use Rattle.ses_io.specs.Outside.{MediaOutside}
 use Rattle.session_model.specs.declared.session.SourceDecl.{SourceDecl}
 use Rattle.session_model.specs.declared.session.Session.{Session as Opening}
 use Rattle.session_model.specs.Valid.{IsValid}
-use Rattle.engine_model.specs.PlainSession.{is_plain}
 use Rattle.edition_log.specs.EditionState.{IsEditionOf}
 use Rattle.session_walk.specs.declared.fault.SessionFault.{SessionFault}
 use Rattle.session_walk.specs.declared.fault.SessionFault.TheVariants as fault
@@ -16,7 +15,7 @@ use Rattle.audio_source.specs.Opened.{IsListed, IsOpened}
 use Rattle.audio_source.specs.Refusals.{why_of}
 use Rattle.session_opening.specs.declared.loading.Loaded.{Loaded}
 use Rattle.session_opening.specs.declared.unopened.Unopened.{Unopened}
-use Rattle.session_opening.specs.declared.unopened.Unopened.TheVariants.{Session, NotBuilt, Source, ReadFault, NoMemory}
+use Rattle.session_opening.specs.declared.unopened.Unopened.TheVariants.{Session, Source, ReadFault, NoMemory}
 use Rattle.session_opening.specs.declared.no_session.NoSession.{NoSession}
 use Rattle.session_opening.specs.declared.no_session.NoSession.TheVariants as no_session
 use Rattle.session_opening.specs.declared.reading.Unread.{Unread}
@@ -30,7 +29,6 @@ use Rattle.session_opening.specs.Words.{Export}
 -- a failed read, and want of memory, say nothing of it
 abbrev pub Refuses : {A : Type 0} → Open A → Unopened → Type 0
 Refuses given (Session refusal) = given ≡ Err (wrong.SessionRefused refusal)
-Refuses given NotBuilt = given ≡ Err wrong.NotBuilt
 Refuses given (Source name why) = given ≡ Err (wrong.SourceRefused name (why_of why))
 Refuses given ReadFault = Unit {0}
 Refuses given NoMemory = Unit {0}
@@ -69,8 +67,6 @@ pub record IsLoaded (o : Loaded) : Type 0 where
   -- an edit may follow
   pub ended : o.edition.ended ≡ false
   pub valid : IsValid o.edition.session
-  -- in the form that is built
-  pub plain : is_plain o.edition.session ≡ true
   -- each source has the name, the rate and the channels that were declared
   pub listed : IsListed o.edition.session.rate o.edition.session.sources.items o.sources.opened
   -- no line of them is held yet
@@ -97,7 +93,6 @@ abbrev pub Caused : {V A : Type 0} → MediaOutside V → V → V → Result A U
 Caused outside old new (Ok a) = outside.read_faults new ≡ outside.read_faults old
 Caused outside old new (Err ReadFault) = risen (outside.read_faults old) ≤ outside.read_faults new
 Caused outside old new (Err (Session refusal)) = outside.read_faults new ≡ outside.read_faults old
-Caused outside old new (Err NotBuilt) = outside.read_faults new ≡ outside.read_faults old
 Caused outside old new (Err (Source name why)) = outside.read_faults new ≡ outside.read_faults old
 Caused outside old new (Err NoMemory) = outside.read_faults new ≡ outside.read_faults old
 

@@ -1,34 +1,32 @@
 -- What holds of all that is opened, and of each refusal.
-use Rattle.std.specs.Prelude.{◌≡◌, ℕ, ◌<◌, true, List, slice_get, Some, IsOk, Ok, Err}
+use Rattle.std.specs.Prelude.{◌≡◌, ℕ, ◌<◌, List, slice_get, Some, IsOk, Ok, Err}
 use Rattle.ses_io.specs.Files.{Files}
 use Rattle.session_model.specs.declared.session.Session.{Session}
 use Rattle.session_model.specs.declared.session.SourceDecl.{SourceDecl}
 use Rattle.session_model.specs.Valid.{IsValid}
-use Rattle.engine_model.specs.PlainSession.{is_plain}
 use Rattle.audio_source.specs.Refusals.{SourceRefusal, source_head}
-use Rattle.session_opening.specs.Plan.{Plan, SourceRefused, plan_of_export, read_session, session_in, session_plan}
+use Rattle.session_opening.specs.Plan.{Plan, SourceRefused, plan_of_export, read_session, session_plan}
 use Rattle.session_opening.specs.Words.{Export}
 
--- What can be played: the session of the export's file, which is valid and plain, and each source's file has its head.
+-- What can be played: the session of the export's file, which is valid, and each source's file has its head.
 pub record IsPlayable (files : Files) (e : Export) (o : Plan) : Type 0 where
-  pub session : session_in (files e.session) ≡ Ok o.session
+  pub session : read_session (files e.session) ≡ Ok o.session
   pub from : o.from ≡ e.from
   pub cycles : o.cycles ≡ e.cycles
   pub valid : IsValid o.session
-  pub plain : is_plain o.session ≡ true
   pub heads : (i : ℕ) (d : SourceDecl) → slice_get o.session.sources.items i ≡ Some d → IsOk (source_head o.session.rate d.channels (files d.file))
 
 -- what is opened can be played
 abbrev pub PlanIsPlayable : Type 0
 PlanIsPlayable = (files : Files) (e : Export) (o : Plan) → plan_of_export files e ≡ Ok o → IsPlayable files e o
 
--- A session that is opened whatever its form: it is that of its file and valid, and each source's file has its head.
+-- A session that is opened: it is that of its file and valid, and each source's file has its head.
 pub record IsOpen (files : Files) (name : List ℕ) (s : Session) : Type 0 where
   pub session : read_session (files name) ≡ Ok s
   pub valid : IsValid s
   pub heads : (i : ℕ) (d : SourceDecl) → slice_get s.sources.items i ≡ Some d → IsOk (source_head s.rate d.channels (files d.file))
 
--- whatever form a session has that is opened, it is valid, and its sources are there
+-- a session that is opened is valid, and its sources are there
 abbrev pub OpenIsValid : Type 0
 OpenIsValid = (files : Files) (name : List ℕ) (s : Session) → session_plan files name ≡ Ok s → IsOpen files name s
 
@@ -41,12 +39,11 @@ pub record IsFirst (files : Files) (rate : ℕ) (list : List SourceDecl) (called
 
 -- A source of this session isn't opened, the first of them.
 pub record FirstOf (files : Files) (e : Export) (name : List ℕ) (why : SourceRefusal) (s : Session) : Type 0 where
-  pub session : session_in (files e.session) ≡ Ok s
+  pub session : read_session (files e.session) ≡ Ok s
   pub valid : IsValid s
-  pub plain : is_plain s ≡ true
   pub first : (place : ℕ) × (d : SourceDecl) × IsFirst files s.rate s.sources.items name why place d
 
--- a source is refused only of a session that is valid and plain, and it is the first
+-- a source is refused only of a session that is valid, and it is the first
 abbrev pub RefusedIsFirst : Type 0
 RefusedIsFirst = (files : Files) (e : Export) (name : List ℕ) (why : SourceRefusal) → plan_of_export files e ≡ Err (SourceRefused name why) →
     (s : Session) × FirstOf files e name why s

@@ -6,7 +6,6 @@ use Rattle.session_model.specs.declared.refusal.SessionRefusal.{SessionRefusal}
 use Rattle.session_model.specs.declared.refusal.SessionRefusal.TheVariants.{Absent, TooLong}
 use Rattle.session_model.specs.declared.session.Session.{Session}
 use Rattle.session_model.specs.declared.session.SourceDecl.{SourceDecl}
-use Rattle.engine_model.specs.PlainSession.{is_plain}
 use Rattle.session_walk.specs.Section.{Read}
 use Rattle.session_toml.specs.Session.{session}
 use Rattle.audio_source.specs.Refusals.{SourceRefusal, source_head}
@@ -15,8 +14,6 @@ use Rattle.session_opening.specs.Words.{Export}
 pub data Wrong : Type 0 where
   -- the session's file is absent or too long, or its text breaks this rule
   SessionRefused : SessionRefusal → Wrong
-  -- the session isn't in the form that is built
-  NotBuilt : Wrong
   -- the file of the source of this name isn't opened
   SourceRefused : List ℕ → SourceRefusal → Wrong
 
@@ -41,16 +38,9 @@ abbrev pub read : Read Session → Open Session
 read (Ok s) = Ok s
 read (Err refusal) = Err (SessionRefused refusal)
 
-abbrev pub plain : Session → Open Session
-plain s = if is_plain s then Ok s else Err NotBuilt
-
--- the session of a file, whatever its form
+-- the session of a file
 unfoldable pub read_session : Option (List ℕ) → Open Session
 read_session file = text_in file >>= λ text. read (session text)
-
--- the session of a file, in the form that is built
-unfoldable pub session_in : Option (List ℕ) → Open Session
-session_in file = read_session file >>= plain
 
 -- ---- its sources
 
@@ -69,7 +59,7 @@ sources_in files rate (d ∷ ds) = source_in files rate d >>= λ one. sources_in
 
 -- ---- the whole
 
--- the session of a file, whatever its form, where the files of all its sources are opened
+-- the session of a file, where the files of all its sources are opened
 unfoldable pub session_plan : Files → List ℕ → Open Session
 session_plan files name = do
   s ← read_session (files name)
@@ -85,6 +75,6 @@ pub record Plan : Type 0 where
 -- what an export opens
 unfoldable pub plan_of_export : Files → Export → Open Plan
 plan_of_export files e = do
-  s ← session_in (files e.session)
+  s ← read_session (files e.session)
   sources ← sources_in files s.rate s.sources.items
   Ok (record { session = s; from = e.from; cycles = e.cycles })

@@ -1,19 +1,19 @@
 //! What holds of all that is opened, and of each source that is refused.
 ghost use Rattle.session_opening.specs.Laws.{OpenIsValid, PlanIsPlayable, RefusedIsFirst};
 
-/// What is opened can be played: its session is valid and plain, and the file of each source has a head of the session's
-/// rate and the source's channels.
+/// What is opened can be played: its session is valid, and the file of each source has a head of the session's rate and
+/// the source's channels.
 pub fn plan_is_playable()
     ensures { PlanIsPlayable }
 {}
 
-/// A session that is opened, whatever its form, is valid, and the file of each source has a head of the session's rate and the
-/// source's channels.
+/// A session that is opened is valid, and the file of each source has a head of the session's rate and the source's
+/// channels.
 pub fn open_is_valid()
     ensures { OpenIsValid }
 {}
 
-/// A source is refused only of a session that is valid and plain, and it is the first whose file isn't opened.
+/// A source is refused only of a session that is valid, and it is the first whose file isn't opened.
 #[tactic(auto, using(crate::proofs::PlanLaws::refused_is_first))]
 pub fn refused_is_first()
     ensures { RefusedIsFirst }

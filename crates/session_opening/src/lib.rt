@@ -6,7 +6,6 @@ mod commands;
 mod laws;
 mod loading;
 mod no_session;
-mod plain;
 mod reading;
 mod unopened;
 mod words;

@@ -1,7 +1,6 @@
 //! What an export plays: edition 0 of its session, and its sources, or the first thing that is wrong.
-ghost use Rattle.std.specs.Prelude.{◌≡◌, ◌≢◌, true, [], IfOk};
+ghost use Rattle.std.specs.Prelude.{◌≡◌, [], IfOk};
 ghost use Rattle.session_model.specs.Valid.{IsValid};
-ghost use Rattle.engine_model.specs.PlainSession.{is_plain};
 ghost use Rattle.audio_source.specs.Opened.{IsListed, IsOpened};
 ghost use Rattle.session_opening.specs.Answers.{Gives, GivesSession, IsRead, IsLoaded, HasHeads, Caused, CausedSession, plan_from, refusal_at};
 ghost use Rattle.session_opening.specs.Plan as spec;
@@ -10,7 +9,6 @@ ghost use Rattle.ses_io.specs.Outside.{OnlyReads};
 
 use crate::asked::Export;
 use crate::no_session::NoSession;
-use crate::plain::is_plain;
 use crate::reading::read_whole;
 use crate::unopened::Unopened;
 use audio_source::{FileRefusal, OpenRefusal, Sources};
@@ -47,8 +45,8 @@ fn text_in<M: Media>(alloc: Global, media: &mut M, name: &str) -> Result<Vec<u8>
     Ok(text)
 }
 
-/// The session of the file of that name, whatever its form. What is wrong is told in this order: the file, then its text by
-/// the first rule that it breaks.
+/// The session of the file of that name. What is wrong is told in this order: the file, then its text by the first rule
+/// that it breaks.
 #[tactic(auto, unfolding(crate::specs::Plan::read_session))]
 pub fn read_session<M: Media>(
     alloc: Global,
@@ -67,27 +65,9 @@ pub fn read_session<M: Media>(
     Ok(session)
 }
 
-// The session of a file, where it is in the form that is built.
-#[tactic(auto, unfolding(crate::specs::Plan::session_in))]
-fn session_in<M: Media>(alloc: Global, media: &mut M, name: &str) -> Result<Session, Unopened>
-    ensures told { M.outside.tells
-        → Gives (λ s. s) (spec.session_in (M.outside.files media.old name.now)) result }
-    ensures valid { IfOk result IsValid }
-    ensures plain { IfOk result (λ s. is_plain s ≡ true) }
-    ensures only_reads { OnlyReads M.outside media.old media.new }
-    ensures cause { Caused M.outside media.old media.new result }
-{
-    let session = read_session(alloc, media, name)?;
-    if !is_plain(&session) {
-        return Err(Unopened::NotBuilt);
-    }
-    Ok(session)
-}
-
 // The refusal of the source at that place.
 fn refused(sources: &[SourceDecl], place: u32, why: FileRefusal) -> Unopened
     ensures value { result ≡ refusal_at sources.now place why }
-    ensures any_form { result ≢ Unopened.NotBuilt }
 {
     match sources.get(place as usize) {
         Some(source) => Unopened::Source(source.name, why),
@@ -111,7 +91,6 @@ fn sources_in<M: Media>(
     ensures heads { M.outside.tells → IfOk result
         (λ s. IsOpened (M.outside.files media.old) session.now.rate
         session.now.sources.items s.opened) }
-    ensures any_form { result ≢ Err Unopened.NotBuilt }
     ensures only_reads { OnlyReads M.outside media.old media.new }
     ensures cause { Caused M.outside media.old media.new result }
 {
@@ -125,7 +104,7 @@ fn sources_in<M: Media>(
     }
 }
 
-/// A session of whatever form, and its sources.
+/// A session, and its sources.
 #[derive(Drop)]
 pub struct Opened {
     pub session: Session,
@@ -133,9 +112,9 @@ pub struct Opened {
     pub sources: Sources,
 }
 
-/// Opens a session, whatever its form, and the files of its sources, by their heads. What is wrong is told in this order: the
-/// session's file, its text, the first source, in their order, whose file isn't opened. It takes the memory of the session
-/// and of all later reads of the sources.
+/// Opens a session and the files of its sources, by their heads. What is wrong is told in this order: the session's file,
+/// its text, the first source, in their order, whose file isn't opened. It takes the memory of the session and of all
+/// later reads of the sources.
 #[tactic(auto, unfolding(crate::specs::Plan::session_plan))]
 pub fn open_session<M: Media>(alloc: Global, media: &mut M, name: &str) -> Result<Opened, Unopened>
     ensures told { M.outside.tells → Gives (λ o. o.session)
@@ -146,7 +125,6 @@ pub fn open_session<M: Media>(alloc: Global, media: &mut M, name: &str) -> Resul
     ensures held { IfOk result (λ o. o.sources.held ≡ []) }
     ensures heads { M.outside.tells → IfOk result (λ o. IsOpened (M.outside.files media.old)
         o.session.rate o.session.sources.items o.sources.opened) }
-    ensures any_form { result ≢ Err Unopened.NotBuilt }
     ensures only_reads { OnlyReads M.outside media.old media.new }
     ensures cause { Caused M.outside media.old media.new result }
 {
@@ -156,8 +134,8 @@ pub fn open_session<M: Media>(alloc: Global, media: &mut M, name: &str) -> Resul
 }
 
 /// Opens what an export plays: its session, and the files of its sources, by their heads. What is wrong is told in this
-/// order: the session's file, its text, its form, the first source, in their order, whose file isn't opened. It takes
-/// the memory of the session, of its editions and of all later reads of the sources.
+/// order: the session's file, its text, the first source, in their order, whose file isn't opened. It takes the memory of
+/// the session, of its editions and of all later reads of the sources.
 #[tactic(auto, unfolding(crate::specs::Plan::plan_of_export))]
 pub fn open<M: Media>(alloc: Global, media: &mut M, export: &Export<'_>) -> Result<Loaded, Unopened>
     ensures told { M.outside.tells → Gives (plan_from (export_view export.now))
@@ -167,7 +145,7 @@ pub fn open<M: Media>(alloc: Global, media: &mut M, export: &Export<'_>) -> Resu
     ensures only_reads { OnlyReads M.outside media.old media.new }
     ensures cause { Caused M.outside media.old media.new result }
 {
-    let session = session_in(alloc, media, export.session)?;
+    let session = read_session(alloc, media, export.session)?;
     let sources = sources_in(alloc, media, &session)?;
     let edition = Edition::opening(alloc, session)?;
     Ok(Loaded { edition, sources })

@@ -10,8 +10,6 @@ use session_model::SessionRefusal;
 pub enum Unopened {
     /// The session's file is absent or too long, or its text breaks this rule.
     Session(SessionRefusal),
-    /// The session isn't in the form that is built so far.
-    NotBuilt,
     /// The file of the source of this name isn't opened.
     Source(Name, FileRefusal),
     /// A call that asks for a file's size or reads it failed, and the media's count of these rose.

@@ -10,7 +10,7 @@ use Rattle.ses_io.specs.FixedList.{Listed}
 use Rattle.ses_io.specs.declared.world.World.{World}
 use Rattle.engine_model.specs.Journal as engine
 use Rattle.engine_model.specs.Fits.{is_lawful}
-use Rattle.engine_model.specs.PlainSession.{is_plain}
+use Rattle.session_model.specs.Valid.{IsValid}
 use Rattle.engine_model.specs.Played.{master_file, samples_of}
 use Rattle.audio_source.specs.Told.{source_sound}
 use Rattle.cycle_journal.specs.declared.entry.Entry.{Entry}
@@ -18,11 +18,12 @@ use Rattle.cycle_journal.specs.declared.status.Status.{Status}
 use Rattle.cycle_journal.specs.declared.status.Status.TheVariants.{Done, MasterFault, ReadFault}
 use Rattle.cycle_journal.specs.JournalView.{seen_entries}
 use Rattle.disk_ring.specs.Rings.{Whole}
-use Rattle.plain_process.specs.declared.finished.Finished.{Finished}
-use Rattle.plain_process.specs.declared.finished.TrackRings.{TrackRings}
-use Rattle.engine_core.specs.Events.{KeepsTheRest, IsPlayedOut, journal_of}
+use Rattle.run_world.specs.declared.finished.Finished.{Finished}
+use Rattle.run_rings.specs.declared.joining.TrackRings.{TrackRings}
+use Rattle.engine_core.specs.Events.{KeepsTheRest, journal_of}
+use Rattle.engine_core.specs.Playing.{IsPlayedOut}
 use Rattle.engine_core.specs.Passed.{AllGenuine, AllStayOpen, PassedOn}
-use Rattle.engine_core.specs.Serial.{IsCounted}
+use Rattle.engine_core.specs.Asked.{IsCounted}
 use Rattle.engine_core.specs.Written.{IsCutOff}
 use Rattle.session_opening.specs.Answers.{Caused, HasHeads, Refuses, plan_from}
 use Rattle.session_opening.specs.Plan.{Open, Plan, Wrong}
@@ -135,10 +136,10 @@ module _ {M I C W O : Type 0} (outside : MediaOutside M) (sink : SinkOutside W) 
     }
 
     by_hand : (es : List engine.Entry) → IsOfSome sink (record old { media = media }) new e es → IsOfSome sink old new e es
-    by_hand es is = record { session = is.session; is_plain = is.is_plain; run = run_before (record { session = is.session; from = e.from; cycles = e.cycles }) es is.run }
+    by_hand es is = record { session = is.session; valid = is.valid; run = run_before (record { session = is.session; from = e.from; cycles = e.cycles }) es is.run }
 
   -- a run that plays
-  module _ (e : Export) (x : Loaded) (old : World M I C W O) (plainly : is_plain x.edition.session ≡ true) (heads : outside.tells → HasHeads (outside.files old.media) x) (f : Finished M I C W O)
+  module _ (e : Export) (x : Loaded) (old : World M I C W O) (valid : IsValid x.edition.session) (heads : outside.tells → HasHeads (outside.files old.media) x) (f : Finished M I C W O)
       (leaves : IsPlayedOut x.edition.session e.from e.cycles f.edits.items (journal_of f) f.rings.items f.faults)
       (genuine : outside.tells → AllGenuine (source_sound (outside.files old.media) x.sources.opened) x.edition.session f.edits.items f.rings.items)
       (master : outside.tells → sink.tells → f.faults.master ≡ false → sink.held f.world.master ≡ sink.held old.master ++ master_file x.edition.session f.edits.items
@@ -201,7 +202,7 @@ module _ {M I C W O : Type 0} (outside : MediaOutside M) (sink : SinkOutside W) 
       status = of_export_by (status.played_status f.faults.read f.faults.master new.status of);
       export = λ t. subst (λ j. WherePlayed plan j (IsExport outside sink old new)) (sym journal_is) (export t);
       alone = let P : Option (Listed Entry) → Type 0 = λ o. IfSome o (λ j. IsOfSome sink old new e (seen_entries j.items)) in
-          subst P (sym journal_is) (record { session = x.edition.session; is_plain = plainly; run = run });
+          subst P (sym journal_is) (record { session = x.edition.session; valid = valid; run = run });
       reads = subst (λ n. ReadsFailed (outside.read_faults old.media) n new.status) (sym media_is) (status.reads_of f.faults.read f.faults.master new.status of (outside.read_faults old.media) (outside.read_faults f.world.media) counted);
       writes = subst (λ n. WritesFailed MasterFault (sink.faults old.master) n new.status) (sym master_is) (status.writes_of f.faults.read f.faults.master new.status of (sink.faults old.master) (sink.faults f.world.master) noted);
       still_open = λ still. subst (λ l. AllStayOpen l.items) (sym rings_are) (leaves.still_open (status.no_rise (outside.read_faults old.media) (outside.read_faults f.world.media) f.faults.read counted

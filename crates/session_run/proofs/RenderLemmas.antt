@@ -79,6 +79,6 @@ told_sounds files s opened is = fun_ext (λ n. fun_ext (λ i. fun_ext (λ c. lis
 -- a rendering ends as a render may
 pub of_render : (s : Status) → (r : Result (Unit {0}) RenderFault) × (s ≡ status_after r) → IsOfRender s
 of_render s (Ok v, is) = inl is
-of_render s (Err fault.ReadFault, is) = inr (inr (unopened.ReadFault, (λ same. cc), is))
+of_render s (Err fault.ReadFault, is) = inr (inr (unopened.ReadFault, is))
 of_render s (Err fault.MasterFault, is) = inr (inl is)
-of_render s (Err fault.NoMemory, is) = inr (inr (unopened.NoMemory, (λ same. cc), is))
+of_render s (Err fault.NoMemory, is) = inr (inr (unopened.NoMemory, is))

@@ -38,7 +38,7 @@ module _ {M I C W O : Type 0} (media : MediaOutside M) (master : SinkOutside W) 
   export_same p es e = record { run = run_same p es e.run; genuine = e.genuine; written = e.written; cut_off = e.cut_off }
 
   some_same : (e : Export) (es : List engine.Entry) → IsOfSome master old ended e es → IsOfSome master old new e es
-  some_same e es is = record { session = is.session; is_plain = is.is_plain; run = run_same (record { session = is.session; from = e.from; cycles = e.cycles }) es is.run }
+  some_same e es is = record { session = is.session; valid = is.valid; run = run_same (record { session = is.session; from = e.from; cycles = e.cycles }) es is.run }
 
   sounds : (asked : Option Command) → MasterIsAsAsked media master old asked ended → MasterIsAsAsked media master old asked new
   sounds (Some (ToExport e)) is = plays.where_played (plan_of_export (media.files old.media) e) ended.journal (IsExport media master old ended) (IsExport media master old new) export_same is

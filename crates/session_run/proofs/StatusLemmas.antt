@@ -7,13 +7,12 @@ use Rattle.ses_io.specs.Outside.{MediaOutside}
 use Rattle.cycle_journal.specs.declared.status.Status.{Status}
 use Rattle.cycle_journal.specs.declared.status.Status.TheVariants.{Done, Usage, MasterFault, OutFault, NoMemory}
 use Rattle.cycle_journal.specs.declared.status.Status.TheVariants as status
-use Rattle.engine_core.specs.RunInvariant.{only_noted}
-use Rattle.engine_core.specs.Serial.{IsCounted}
+use Rattle.engine_core.specs.Asked.{IsCounted, only_noted}
 use Rattle.session_opening.specs.Answers.{Caused, Refuses, unopened as opening}
 use Rattle.session_opening.specs.Plan.{Open}
 use Rattle.session_opening.specs.Words.{Command, ToExport, ToMigrate, ToCheck, ToRender}
 use Rattle.session_opening.specs.declared.unopened.Unopened.{Unopened}
-use Rattle.session_opening.specs.declared.unopened.Unopened.TheVariants.{Session, NotBuilt, Source, ReadFault}
+use Rattle.session_opening.specs.declared.unopened.Unopened.TheVariants.{Session, Source, ReadFault}
 use Rattle.session_opening.specs.declared.unopened.Unopened.TheVariants as unopened
 use Rattle.session_run.specs.Exported.{IsStill}
 use Rattle.session_run.specs.Status.{EndsWith, IsOfCheck, IsOfExport, IsOfMigrate, IsOfRender, IsStatusOf, ReadsFailed, WritesFailed, status_at_end, status_of}
@@ -32,7 +31,6 @@ some_rise before now false counted more = absurd (omega (arith, counted.kept ref
 
 pub unplayed_ends : {A : Type 0} (fault : Status) (given : Open A) (why : Unopened) → Refuses given why → EndsWith fault given (status_of why)
 unplayed_ends fault given (Session refusal) is = subst (λ p. EndsWith fault p (status.Session refusal)) (sym is) (inl refl)
-unplayed_ends fault given NotBuilt is = subst (λ p. EndsWith fault p status.NotBuilt) (sym is) (inl refl)
 unplayed_ends fault given (Source name why) is = subst (λ p. EndsWith fault p (status.SourceFile name why)) (sym is) (inl (why, refl, refl))
 unplayed_ends fault (Ok o) ReadFault is = inr (inr (inl refl))
 unplayed_ends fault (Err w) ReadFault is = inr (inl refl)
@@ -45,7 +43,6 @@ quiet before now s same not = record { later = λ _. omega (arith, same); cause 
 module _ {V : Type 0} (outside : MediaOutside V) (old new : V) where
   pub unplayed_reads : (why : Unopened) → Caused {A = Unit {0}} outside old new (Err why) → ReadsFailed (outside.read_faults old) (outside.read_faults new) (status_of why)
   unplayed_reads (Session refusal) cause = quiet (outside.read_faults old) (outside.read_faults new) (status.Session refusal) cause (λ is. cc)
-  unplayed_reads NotBuilt cause = quiet (outside.read_faults old) (outside.read_faults new) status.NotBuilt cause (λ is. cc)
   unplayed_reads (Source name why) cause = quiet (outside.read_faults old) (outside.read_faults new) (status.SourceFile name why) cause (λ is. cc)
   unplayed_reads ReadFault cause = record { later = λ is. absurd (other is); cause = λ _. cause; same = λ not _. absurd (not refl) } where
     other : status.ReadFault ≡ MasterFault → ⊥
@@ -55,7 +52,6 @@ module _ {V : Type 0} (outside : MediaOutside V) (old new : V) where
 -- whether a status says what is wrong, or that a read failed or memory ran out
 abbrev is_reason : Status → Bool
 is_reason (status.Session refusal) = true
-is_reason status.NotBuilt = true
 is_reason (status.SourceFile name why) = true
 is_reason status.ReadFault = true
 is_reason NoMemory = true
@@ -63,7 +59,6 @@ is_reason _ = false
 
 reason_of : (why : Unopened) → is_reason (status_of why) ≡ true
 reason_of (Session refusal) = refl
-reason_of NotBuilt = refl
 reason_of (Source name why) = refl
 reason_of ReadFault = refl
 reason_of unopened.NoMemory = refl
@@ -98,23 +93,23 @@ migrate_not_usage s (inr (inr (why, by))) is = not_of (opening why) Usage refl (
 pub check_not_master : (s : Status) → IsOfCheck s → s ≡ MasterFault → ⊥
 check_not_master s (inl done) is = cc
 check_not_master s (inr (inl fault)) is = cc
-check_not_master s (inr (inr (why, form, by))) is = not_of why MasterFault refl (sym by ∙ is)
+check_not_master s (inr (inr (why, by))) is = not_of why MasterFault refl (sym by ∙ is)
 
 pub check_not_usage : (s : Status) → IsOfCheck s → s ≡ Usage → ⊥
 check_not_usage s (inl done) is = cc
 check_not_usage s (inr (inl fault)) is = cc
-check_not_usage s (inr (inr (why, form, by))) is = not_of why Usage refl (sym by ∙ is)
+check_not_usage s (inr (inr (why, by))) is = not_of why Usage refl (sym by ∙ is)
 
 -- a render writes to the master and not to out
 pub render_not_out : (s : Status) → IsOfRender s → s ≡ OutFault → ⊥
 render_not_out s (inl done) is = cc
 render_not_out s (inr (inl fault)) is = cc
-render_not_out s (inr (inr (why, form, by))) is = not_of why OutFault refl (sym by ∙ is)
+render_not_out s (inr (inr (why, by))) is = not_of why OutFault refl (sym by ∙ is)
 
 pub render_not_usage : (s : Status) → IsOfRender s → s ≡ Usage → ⊥
 render_not_usage s (inl done) is = cc
 render_not_usage s (inr (inl fault)) is = cc
-render_not_usage s (inr (inr (why, form, by))) is = not_of why Usage refl (sym by ∙ is)
+render_not_usage s (inr (inr (why, by))) is = not_of why Usage refl (sym by ∙ is)
 
 -- only no command ends so
 pub usage_only : (asked : Option Command) (s : Status) → IsStatusOf asked s → (s ≡ Usage) ↔ (asked ≡ None)

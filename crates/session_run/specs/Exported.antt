@@ -12,7 +12,7 @@ use Rattle.session_model.specs.declared.edit.Edit.{Edit}
 use Rattle.engine_model.specs.Fits.{is_lawful}
 use Rattle.engine_model.specs.Journal as engine
 use Rattle.engine_model.specs.Plain.{accepted, export_commands, plain}
-use Rattle.engine_model.specs.PlainSession.{is_plain}
+use Rattle.session_model.specs.Valid.{IsValid}
 use Rattle.engine_model.specs.Played.{master_file, samples_of}
 use Rattle.cycle_journal.specs.declared.entry.Entry.{Entry}
 use Rattle.cycle_journal.specs.declared.status.Status.TheVariants.{Done}
@@ -79,8 +79,8 @@ module _ {M I C W O : Type 0} where
     pub cut_off : master.tells → master.faults old.master < master.faults new.world.master →
         IsCutOff (master.held old.master) (master.held new.world.master) p.session (edits_of p) (samples_of (sounds_in (media.files old.media) p.session) p.session (edits_of p)) p.cycles journal
 
-  -- What was played is the export that the words ask for, of some plain session.
+  -- What was played is the export that the words ask for, of some valid session.
   pub record IsOfSome (master : SinkOutside W) (old : World M I C W O) (new : Outcome M I C W O) (e : Export) (journal : List engine.Entry) : Type 0 where
     pub session : Session
-    pub is_plain : is_plain session ≡ true
+    pub valid : IsValid session
     pub run : IsRun master old new (record { session = session; from = e.from; cycles = e.cycles }) journal

@@ -6,10 +6,10 @@ use Rattle.disk_ring.specs.Rings.{Whole}
 use Rattle.audio_source.specs.declared.refusal.FileRefusal.{FileRefusal}
 use Rattle.audio_source.specs.Refusals.{why_of}
 use Rattle.cycle_journal.specs.declared.status.Status.{Status}
-use Rattle.cycle_journal.specs.declared.status.Status.TheVariants.{Done, Usage, Session, SourceFile, ReadFault, WriteFault, InputFault, MasterFault, ControlFault, OutFault, NoMemory, ControlTooLong, NotBuilt}
+use Rattle.cycle_journal.specs.declared.status.Status.TheVariants.{Done, Usage, Session, SourceFile, ReadFault, WriteFault, InputFault, MasterFault, ControlFault, OutFault, NoMemory, ControlTooLong}
 use Rattle.master_render.specs.declared.fault.RenderFault.{RenderFault}
 use Rattle.master_render.specs.declared.fault.RenderFault.TheVariants as fault
-use Rattle.plain_process.specs.declared.finished.Faults.{Faults}
+use Rattle.run_world.specs.declared.finished.Faults.{Faults}
 use Rattle.session_opening.specs.declared.no_session.NoSession.{NoSession}
 use Rattle.session_opening.specs.declared.unopened.Unopened.{Unopened}
 use Rattle.session_opening.specs.declared.unopened.Unopened.TheVariants as unopened
@@ -24,7 +24,6 @@ use Rattle.session_run.specs.declared.outcome.Outcome.{Outcome}
 -- the status that says what is wrong
 abbrev pub Says : Wrong → Status → Type 0
 Says (plan.SessionRefused refusal) s = s ≡ Session refusal
-Says plan.NotBuilt s = s ≡ NotBuilt
 Says (plan.SourceRefused name why) s = (refusal : FileRefusal) × (s ≡ SourceFile name refusal) × (why_of refusal ≡ why)
 
 -- Where something is wrong the status says so. Else it is Done, or a write of what is written failed, which is this fault, or a read
@@ -37,7 +36,6 @@ EndsWith fault (Err wrong) s = Says wrong s ⊎ ((s ≡ ReadFault) ⊎ (s ≡ No
 
 abbrev pub status_of : Unopened → Status
 status_of (unopened.Session refusal) = Session refusal
-status_of unopened.NotBuilt = NotBuilt
 status_of (unopened.Source name why) = SourceFile name why
 status_of unopened.ReadFault = ReadFault
 status_of unopened.NoMemory = NoMemory
@@ -46,13 +44,13 @@ status_of unopened.NoMemory = NoMemory
 abbrev pub IsOfExport : Status → Type 0
 IsOfExport s = (s ≡ Done) ⊎ ((s ≡ MasterFault) ⊎ ((why : Unopened) × (s ≡ status_of why)))
 
--- the same of a migrate: it opens no source, and takes each form of session
+-- the same of a migrate: it opens no source
 abbrev pub IsOfMigrate : Status → Type 0
 IsOfMigrate s = (s ≡ Done) ⊎ ((s ≡ OutFault) ⊎ ((why : NoSession) × (s ≡ status_of (answers.unopened why))))
 
--- the same of a check: it takes each form of session too, and opens its sources
+-- the same of a check: it opens its sources
 abbrev pub IsOfCheck : Status → Type 0
-IsOfCheck s = (s ≡ Done) ⊎ ((s ≡ OutFault) ⊎ ((why : Unopened) × (why ≢ unopened.NotBuilt) × (s ≡ status_of why)))
+IsOfCheck s = (s ≡ Done) ⊎ ((s ≡ OutFault) ⊎ ((why : Unopened) × (s ≡ status_of why)))
 
 -- how a rendering ended
 abbrev pub status_after : Result (Unit {0}) RenderFault → Status
@@ -61,9 +59,9 @@ status_after (Err fault.ReadFault) = ReadFault
 status_after (Err fault.MasterFault) = MasterFault
 status_after (Err fault.NoMemory) = NoMemory
 
--- the same of a render, which takes each form of session and opens its sources
+-- the same of a render, which opens them too
 abbrev pub IsOfRender : Status → Type 0
-IsOfRender s = (s ≡ Done) ⊎ ((s ≡ MasterFault) ⊎ ((why : Unopened) × (why ≢ unopened.NotBuilt) × (s ≡ status_of why)))
+IsOfRender s = (s ≡ Done) ⊎ ((s ≡ MasterFault) ⊎ ((why : Unopened) × (s ≡ status_of why)))
 
 -- the same of what was asked for, which may be no command
 abbrev pub IsStatusOf : Option Command → Status → Type 0

@@ -3,7 +3,7 @@ ghost use Rattle.std.specs.Prelude.{◌≡◌};
 ghost use Rattle.session_run.specs.Status.{status_of, status_at_end};
 
 use cycle_journal::Status;
-use engine_core::Faults;
+use run_world::Faults;
 use session_opening::Unopened;
 
 /// The status of an export that isn't played.
@@ -12,7 +12,6 @@ pub(crate) fn status_of(why: Unopened) -> Status
 {
     match why {
         Unopened::Session(refusal) => Status::Session(refusal),
-        Unopened::NotBuilt => Status::NotBuilt,
         Unopened::Source(name, why) => Status::SourceFile(name, why),
         Unopened::ReadFault => Status::ReadFault,
         Unopened::NoMemory => Status::NoMemory,

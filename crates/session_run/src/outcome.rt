@@ -3,8 +3,9 @@ ghost use Rattle.std.specs.Prelude.{◌≡◌, [], Some, None};
 
 use cycle_journal::{Journal, Status};
 use disk_ring::Ring;
-use engine_core::{Finished, RingsList};
 use piece_item::Ack;
+use run_rings::RingsList;
+use run_world::Finished;
 use ses_io::{FixedList, World};
 use std::alloc::Global;
 

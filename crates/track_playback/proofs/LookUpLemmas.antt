@@ -4,7 +4,7 @@ use Rattle.std.specs.Prelude.{Bool, map, reverse}
 use Rattle.std.proofs.lemmas.List.{reverse-append}
 use Rattle.std.proofs.lemmas.Option.{get_or_from_slice_get, slice_get_within}
 use Rattle.engine_laws.specs.MadeLaws.{HasLookedUp}
-use Rattle.engine_laws.proofs.PlainSessionLemmas.{item_at}
+use Rattle.engine_laws.proofs.ListLemmas.{item_at}
 use Rattle.piece_item.specs.declared.item.Item.{Item}
 use Rattle.piece_item.specs.Views.{kind_of}
 use Rattle.disk_ring.specs.Receiver.{Receiver}

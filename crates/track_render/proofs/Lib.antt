@@ -3,5 +3,4 @@ pub mod PlaceLemmas
 pub mod RunLemmas
 pub mod TrackLemmas
 pub mod ReadLemmas
-pub mod PlainLemmas
 mod BlockVectors

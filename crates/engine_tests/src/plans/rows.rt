@@ -9,7 +9,6 @@ pub(crate) enum Answer {
     Absent,
     /// Its block is out of range.
     BlockRange,
-    NotBuilt,
     /// The file of source a is refused.
     Source(FileRefusal),
     ReadFault,
@@ -117,9 +116,9 @@ pub(crate) const ROWS: &[Row] = &[
             A,
         ],
         bad_reads: &[],
-        answer: Answer::NotBuilt,
+        answer: Answer::Opens,
     },
-    // 24 bits are told before an absent source
+    // 24 bits, and an absent source
     Row {
         from: "0",
         position: 0,
@@ -128,7 +127,7 @@ pub(crate) const ROWS: &[Row] = &[
             parts: &[HEAD, b"block = 4\nbits = 24\n", TRACK, REGION],
         }],
         bad_reads: &[],
-        answer: Answer::NotBuilt,
+        answer: Answer::Source(FileRefusal::Absent),
     },
     // an absent source
     Row {

@@ -64,7 +64,7 @@ pub(crate) const CHECKED: &[Row] = &[
         states: &[],
         notes: &[],
     },
-    // a form that no export plays
+    // the base session at 24 bits
     Row {
         words: CHECK,
         files: &[

@@ -1,6 +1,6 @@
-//! Migrates that are refused or fail, and sessions that a migrate keeps as they are.
+//! Migrates that are refused or fail.
 use super::refused::NO_BLOCK;
-use super::row::{A, BASE, EXPORT, Ends, FORM, HEAD, PARTS, REGION, Row};
+use super::row::{BASE, Ends, Row};
 use crate::bench::File;
 
 const MIGRATE: &[&str] = &["migrate", "s.toml"];
@@ -120,54 +120,6 @@ pub(crate) const MIGRATED: &[Row] = &[
         ends: Ends::OutFault,
         number: 9,
         out: b"",
-        master: &[],
-        states: &[],
-        notes: &[],
-    },
-];
-
-/// Sessions that are valid, and in a form that isn't built: a migrate keeps them so.
-pub(crate) const UNBUILT: &[Row] = &[
-    // a fade in
-    Row {
-        words: EXPORT,
-        files: &[
-            File {
-                name: "s.toml",
-                parts: &[HEAD, FORM, PARTS, REGION, b"fade_in = 4\n"],
-            },
-            A,
-        ],
-        bad_reads: &[],
-        bad_writes: &[],
-        ends: Ends::NotBuilt,
-        number: 20,
-        out: b"error not-built\n",
-        master: &[],
-        states: &[],
-        notes: &[],
-    },
-    // a slow one
-    Row {
-        words: EXPORT,
-        files: &[
-            File {
-                name: "s.toml",
-                parts: &[
-                    b"[session]\nversion = 2\nrate = 48000\nchannels = 1\ndepth = 2\n",
-                    FORM,
-                    PARTS,
-                    REGION,
-                    b"fade_in = 4\nshape_in = \"slow\"\n",
-                ],
-            },
-            A,
-        ],
-        bad_reads: &[],
-        bad_writes: &[],
-        ends: Ends::NotBuilt,
-        number: 20,
-        out: b"error not-built\n",
         master: &[],
         states: &[],
         notes: &[],

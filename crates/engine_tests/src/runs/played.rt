@@ -1,32 +1,15 @@
 //! Exports that are played.
 use super::row::{
-    A, BASE, DATA, EXPORT, Ends, FORM, FORMAT, HEAD, PARTS, REGION, RIFF, Row, SOUND, SOURCE,
+    A, BASE, DATA, EXPORT, Ends, FIRST, FORM, FORMAT, HEAD, HEARD, PARTS, REGION, RIFF, ROLLS, Row,
+    SOUND, SOURCE,
 };
 use crate::bench::File;
 use cycle_journal::{Note, Play, State, Take};
-
-const HEARD: Note = Note {
-    play: Play::Heard(0),
-    take: Take::Off,
-};
 
 const SILENT: Note = Note {
     play: Play::Silent,
     take: Take::Off,
 };
-
-const FIRST: State = State::Rolling {
-    generation: 1,
-    seq: 0,
-};
-
-const ROLLS: &[State] = &[
-    FIRST,
-    State::Rolling {
-        generation: 1,
-        seq: 1,
-    },
-];
 
 pub(crate) const PLAYED: &[Row] = &[
     // the base session

@@ -39,7 +39,7 @@ pub(crate) const REFUSED: &[Row] = &[
         states: &[],
         notes: &[],
     },
-    // a session of 24 bits
+    // a session of 24 bits, and an absent source
     Row {
         words: EXPORT,
         files: &[File {
@@ -48,9 +48,9 @@ pub(crate) const REFUSED: &[Row] = &[
         }],
         bad_reads: &[],
         bad_writes: &[],
-        ends: Ends::NotBuilt,
-        number: 20,
-        out: b"error not-built\n",
+        ends: Ends::Source(FileRefusal::Absent),
+        number: 3,
+        out: b"error source a absent\n",
         master: &[],
         states: &[],
         notes: &[],

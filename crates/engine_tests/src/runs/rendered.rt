@@ -53,7 +53,7 @@ pub(crate) const RENDERED: &[Row] = &[
         states: &[],
         notes: &[],
     },
-    // 24 bits, which no export plays, past the end of the file: 700 and 800 times 256, silence, and a pad byte
+    // 24 bits, past the end of the file: 700 and 800 times 256, silence, and a pad byte
     Row {
         words: &["render", "s.toml", "6", "3"],
         files: &[

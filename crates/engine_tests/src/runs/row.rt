@@ -1,6 +1,6 @@
 //! What the rows of runs are made of.
 use crate::bench::File;
-use cycle_journal::{Note, State};
+use cycle_journal::{Note, Play, State, Take};
 use session_run::FileRefusal;
 
 pub(crate) enum Ends {
@@ -17,7 +17,6 @@ pub(crate) enum Ends {
     ReadFault,
     MasterFault,
     OutFault,
-    NotBuilt,
 }
 
 /// What a run is given, and what it leaves: its status with its number, its out and its master, and the states of its cycles,
@@ -34,6 +33,25 @@ pub(crate) struct Row {
     pub(crate) states: &'static [State],
     pub(crate) notes: &'static [Note],
 }
+
+/// A track that was heard as it was opened.
+pub(crate) const HEARD: Note = Note {
+    play: Play::Heard(0),
+    take: Take::Off,
+};
+
+pub(crate) const FIRST: State = State::Rolling {
+    generation: 1,
+    seq: 0,
+};
+
+pub(crate) const ROLLS: &[State] = &[
+    FIRST,
+    State::Rolling {
+        generation: 1,
+        seq: 1,
+    },
+];
 
 pub(crate) const EXPORT: &[&str] = &["export", "s.toml", "0", "2"];
 
@@ -69,3 +87,16 @@ pub(crate) const A: File = File {
     name: "a.wav",
     parts: SOURCE,
 };
+
+pub(crate) const EIGHT_OF_400: &[u8] = &[
+    0x90, 1, 0x90, 1, 0x90, 1, 0x90, 1, 0x90, 1, 0x90, 1, 0x90, 1, 0x90, 1,
+];
+
+/// Eight frames of 400.
+pub(crate) const EVEN: File = File {
+    name: "a.wav",
+    parts: &[RIFF, FORMAT, DATA, EIGHT_OF_400],
+};
+
+/// A second source.
+pub(crate) const SOURCE_B: &[u8] = b"[[source]]\nname = \"b\"\nfile = \"b.wav\"\nchannels = 1\n";

@@ -59,6 +59,7 @@ impl<I: Source, W: Sink> Process<I, W> {
         ensures playing { OnOk result (IsPlaying I.outside at self.new) }
         ensures master { OnOk result (IsMastered W.outside at self.old
             → IsMastered W.outside at self.new) }
+        ensures of { IsMasterOf at.session self.new.master }
         ensures fault { OnErr result (HasStopped self.old self.new) }
     {
         let made = self.make(e)?;
@@ -75,7 +76,7 @@ impl<I: Source, W: Sink> Process<I, W> {
         ensures reads { CycleReads I.outside on.at self.old (done result) self.new }
         ensures writes { CycleWrites W.outside (next_bytes on.at.session e.now self.old)
             self.old (done result) self.new }
-        ensures master { IfOk result (λ _. IsMasterOf on.at.session self.new.master) }
+        ensures master { IsMasterOf on.at.session self.new.master }
         ensures fault { OnErr result (HasStopped self.old self.new) }
     {
         // by which the session is valid that the edition has

@@ -1,6 +1,7 @@
 use Rattle.std.proofs.Common.{sym, ap, subst}
 use Rattle.cycle_journal.specs.JournalView.{seen_entries}
-use Rattle.engine_core.specs.Events.{AreCounted, GetsAFront, GetsTheMaster, LeavesARun, SendsGenuine, IsPlayedOut, from_in}
+use Rattle.engine_core.specs.Events.{AreCounted, GetsAFront, GetsTheMaster, LeavesARun, SendsGenuine, from_in}
+use Rattle.engine_core.specs.Playing.{IsPlayedOut}
 use Rattle.engine_core.proofs.events.run_events.Goals as goal
 
 -- src/events.rt

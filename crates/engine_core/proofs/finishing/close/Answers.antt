@@ -1,47 +1,39 @@
-use Rattle.std.proofs.Common.{length, refl, sym, ap, subst, ◌∙◌}
-use Rattle.std.proofs.lemmas.List.{length-map}
-use Rattle.disk_ring.specs.Sender.{Sender}
-use Rattle.piece_item.specs.declared.ack.Ack.{Ack}
-use Rattle.ses_io.specs.FixedList.{Listed}
-use Rattle.cycle_journal.specs.declared.entry.Entry.{Entry as Noted}
-use Rattle.cycle_journal.specs.JournalView.{seen_entries}
-use Rattle.edition_log.specs.EditionState.{EditionState as Edition}
-use Rattle.plain_process.specs.Ends.{shut}
-use Rattle.plain_process.specs.declared.ends.ProcessEnds.{ProcessEnds}
-use Rattle.engine_core.specs.Running.{IsTrueOfAll, noted}
-use Rattle.engine_core.specs.Serial.{AreOpen}
-use Rattle.engine_core.proofs.FinishLemmas as finish
+use Rattle.std.proofs.Common.{refl, sym, ap, subst, ◌∙◌}
+use Rattle.std.specs.Prelude.{true, if◌then◌else◌, is_err}
+use Rattle.ses_io.specs.Faults.{HasCause}
+use Rattle.machine_model.specs.Rest.{Over}
+use Rattle.engine_core.specs.Follows.{FollowsToEnd}
 use Rattle.engine_core.proofs.AnswerLemmas as answers
+use Rattle.engine_core.proofs.CloseLemmas as close
 use Rattle.engine_core.proofs.finishing.close.Goals as goal
 
--- src/finishing.rt
-pub drain-closing-requires : goal.drain-closing-requires
-drain-closing-requires g c = let core = c.args.run.core in let running = c.requires.1.1.running in λ κs m.
-    (m, record { closes = finish.closes_now g.begun.session core c.parts-master.result.ends c.parts-master.ensures.ends running.runs; sends = running.sends })
+pub drain-ending-requires : goal.drain-ending-requires
+drain-ending-requires g c = λ κs m. (m.0, (m.1, close.serves_at_end g.M.Media.outside g.on c.args.run.pair c.close-ending.result.0 c.close-ending.result.1 c.close-ending.ensures.closes c.close-ending.ensures.serves))
 
 pub returns-clause-closed : goal.returns-clause-closed
-returns-clause-closed g c = let s = g.begun.session in let core = c.args.run.core in let faults = c.args.run.faults in let parts = c.parts-master in let drain = c.drain-closing.ensures in let last_turns = drain.last_turns in
-    let now = c.drain-closing.result.0 in let drained = c.drain-closing.result.1 in let runs = c.requires.1.1.running.runs in let reads = g.M.Media.outside.read_faults in record {
-      closing = drain.closing;
-      still_true = subst (λ (e : Edition). IsTrueOfAll e.edits s.depth now.ends.plays.items (seen_entries parts.result.journal.items)) (sym last_turns.edition)
-          (subst (λ (j : Listed Noted). IsTrueOfAll core.edition.edits s.depth now.ends.plays.items (seen_entries j.items)) (sym parts.ensures.journal)
-          (finish.still_true core.edition.edits s.depth parts.result.ends.plays.items now.ends.plays.items (noted core.process) last_turns.plays
-          (subst (λ (e : ProcessEnds). IsTrueOfAll core.edition.edits s.depth e.plays.items (noted core.process)) (sym parts.ensures.ends) runs.truth)));
-      takes = last_turns.takes ∙ ap (λ (e : ProcessEnds). length e.takes.items) parts.ensures.ends ∙ length-map core.process.ends.takes.items shut ∙ runs.playing.takes
-          ∙ sym drain.closing.closes.serving.sends;
-      control = runs.control ∙ sym (ap (λ (e : ProcessEnds). e.to_control.ring) parts.ensures.ends) ∙ sym (ap (λ (z : Sender Ack). z.ring) last_turns.to_control);
-      still_open = λ read. answers.did_not drained faults.read c.failed.result c.failed.ensures read (AreOpen now.butler.ends.sends.items)
-          (drain.still_open (c.requires.1.1.still_open (answers.had_not drained faults.read c.failed.result c.failed.ensures read)));
-      reads = answers.counted_on drained faults.read c.failed.result c.failed.ensures g.begun.reads (reads core.butler.media) (reads now.butler.media) c.requires.1.1.reads drain.cause;
+returns-clause-closed g c = let M = g.M.Media.outside in let on = g.on in let s = on.begun.session in let run = c.args.run in let inv = c.requires.1.1.1 in let closed = c.close-ending.ensures in let drain = c.drain-ending.ensures in
+    let first = c.close-ending.result.0 in let now = c.drain-ending.result.0 in let drained = c.drain-ending.result.1 in let read = c.failed.result in
+    let media = ap (λ b. b.media) closed.closes.butler in record {
+      serves = drain.serves;
+      entered = drain.keeps.entered;
+      controlled = close.controlled_at_last M on run.pair first c.close-ending.result.1 now closed.closes drain.keeps.goes_on inv.is_of.controlled;
+      opened = drain.keeps.goes_on.opened ∙ ap (λ b. b.sources.opened) closed.closes.butler ∙ inv.is_of.opened;
+      promises = close.promises_at_last M on run.pair first c.close-ending.result.1 now closed.closes drain.keeps.goes_on inv.rests drain.serves;
+      control = close.control_at_last M on run.pair first c.close-ending.result.1 now closed.closes drain.keeps.goes_on inv.rests;
+      follows = λ fine master. answers.did_not drained run.faults.read read c.failed.ensures fine (FollowsToEnd s on.cycles on.from _ Over now)
+          (close.follows_to_end M on run.pair first c.close-ending.result.1 now closed.closes drain.keeps.goes_on drained closed.as_machine inv.is_of.cycles (inv.all master) drain.follows
+          (inv.follows (answers.had_not drained run.faults.read read c.failed.ensures fine) master));
+      reads = answers.counted_on drained run.faults.read read c.failed.ensures (M.read_faults on.media) (M.read_faults run.pair.butler.media) (M.read_faults now.butler.media) inv.reads
+          (subst (λ v. HasCause (M.read_faults v) (M.read_faults now.butler.media) drained) media drain.cause);
+      failed = drain.failed ∙ ap (λ b. if is_err drained then true else b) (ap (λ b. b.read_failed) closed.closes.butler ∙ inv.failed) ∙ sym c.failed.ensures;
+      only_reads = close.reads_at_last M on run.pair first c.close-ending.result.1 now closed.closes drain.keeps.goes_on inv.is_of.only_reads;
     }
 
 pub returns-clause-leaves : goal.returns-clause-leaves
-returns-clause-leaves g c = let last_turns = c.drain-closing.ensures.last_turns in let parts = c.parts-master.ensures in record {
-  edition = last_turns.edition;
-  sources = last_turns.sources;
-  master = parts.master;
-  journal = parts.journal;
-  only_reads = last_turns.only_reads;
+returns-clause-leaves g c = let closed = c.close-ending.ensures.closes in record {
+  edition = c.drain-ending.ensures.keeps.goes_on.edition ∙ closed.edition;
+  input = closed.input;
+  master = closed.master;
+  journal = closed.journal;
   faults = refl;
-  had_not = answers.had_not c.drain-closing.result.1 c.args.run.faults.read c.failed.result c.failed.ensures;
 }

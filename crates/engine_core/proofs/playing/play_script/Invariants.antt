@@ -1,16 +1,16 @@
 use Rattle.engine_core.proofs.playing.play_script.Given as goal
 
-abbrev pub ghost-controlled : goal.ghost-controlled
-ghost-controlled g a = g.begun
+abbrev pub ghost-new : goal.ghost-new
+ghost-new g a = g.on.begun.session
 
-abbrev pub ghost-start : goal.ghost-start
-ghost-start g a = g.begun
+abbrev pub ghost-control : goal.ghost-control
+ghost-control g a = g.on
 
 abbrev pub ghost-perform : goal.ghost-perform
-ghost-perform g a = g.begun
+ghost-perform g a = g.on
 
 abbrev pub ghost-close : goal.ghost-close
-ghost-close g a = g.begun
+ghost-close g a = g.on
 
 abbrev pub ghost-part : goal.ghost-part
-ghost-part g a = g.begun
+ghost-part g a = g.on

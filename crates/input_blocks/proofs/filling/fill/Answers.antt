@@ -1,4 +1,4 @@
-use Rattle.std.proofs.Common.{◌≡◌, ◌*◌, ◌/◌, length, take, drop, ◌++◌, arith, ◌∙◌, ap, sym}
+use Rattle.std.proofs.Common.{◌≡◌, ◌*◌, ◌/◌, length, take, drop, ◌++◌, ◌<◌, arith, ◌∙◌, ap, sym, subst}
 use Rattle.std.proofs.lemmas.List.{take-append-le, length-take-le}
 use Rattle.audio_source.proofs.ByteLaws as bytes
 use Rattle.audio_source.proofs.SpanLaws as laws
@@ -22,6 +22,12 @@ returns-in_err-read-clause-lost g c = λ t. let info = c.args.info.now in let f 
     let asked = length-take-le (f * info.channels * (info.bits / 8)) c.args.buf.now (fronts.fit f c.requires.1.0 c.min-frames.ensures) in
     fronts.after_a_fault c.from_residual.result
     (fronts.loses_of _ _ _ _ (asked ∙ bytes.frames_times f info.channels (info.bits / 8) ∙ ap (λ n. n * (info.channels * (info.bits / 8))) c.min-frames.ensures) (c.in_err-read.ensures.lost t))
+
+pub returns-in_err-read-clause-asked : goal.returns-in_err-read-clause-asked
+returns-in_err-read-clause-asked g c = let info = c.args.info.now in let f = c.min-frames.result in
+    let asked = length-take-le (f * info.channels * (info.bits / 8)) c.args.buf.now (fronts.fit f c.requires.1.0 c.min-frames.ensures) in
+    fronts.after_a_fault c.from_residual.result
+    (subst (λ n. 0 < n) (asked ∙ bytes.frames_times f info.channels (info.bits / 8) ∙ ap (λ n. n * (info.channels * (info.bits / 8))) c.min-frames.ensures) c.in_err-read.ensures.asked)
 
 pub deliver-requires-clause-whole : goal.deliver-requires-clause-whole
 deliver-requires-clause-whole g c = let info = c.args.info.now in

@@ -21,7 +21,7 @@ returns-in-Ok-run_events g c = let outside = g.M.Media.outside in let sink = g.W
     let view = export_view c.args.asked.now in let x = c.in-Ok.loaded in let media = c.open.new.media in
     does.of_export outside sink g.O.Sink.outside c.args.world c.played.result view
     (plays.reopened outside sink (Ok (plan_from view x)) (plan_of_export (outside.files c.args.world.media) view) view c.args.world media c.played.result e.told e.only_reads e.cause
-    (plays.played outside sink view x (record c.args.world { media = media }) e.played.plain (λ t. subst (λ (f : Files). HasHeads f x) (sym e.only_reads.files) (e.heads t)) c.in-Ok-run_events.finished
+    (plays.played outside sink view x (record c.args.world { media = media }) e.played.valid (λ t. subst (λ (f : Files). HasHeads f x) (sym e.only_reads.files) (e.heads t)) c.in-Ok-run_events.finished
     r.leaves r.genuine r.master r.front r.acks r.counts.reads r.counts.writes r.only_reads r.rest c.played.result (o.status ∙ c.status_at_end.ensures) o.world o.journal o.rings o.acks))
 
 -- there was no memory for it

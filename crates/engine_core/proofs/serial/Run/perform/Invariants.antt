@@ -1,10 +1,10 @@
 use Rattle.engine_core.proofs.serial.Run.perform.Given as goal
 
 abbrev pub ghost-begin : goal.ghost-begin
-ghost-begin g a = g.begun
+ghost-begin g a = g.on
 
 abbrev pub ghost-play : goal.ghost-play
-ghost-play g a = g.begun
+ghost-play g a = g.on
 
-abbrev pub ghost-silence : goal.ghost-silence
-ghost-silence g a = g.begun
+abbrev pub ghost-end : goal.ghost-end
+ghost-end g a = g.on

@@ -1,4 +1,4 @@
-use Rattle.std.proofs.Common.{◌-◌, ◌∙◌, ap, refl, min, sym, subst, length, ◌*◌}
+use Rattle.std.proofs.Common.{◌<◌, ◌-◌, ◌∙◌, ap, refl, min, sym, subst, length, ◌*◌}
 use Rattle.std.proofs.lemmas.List.{with_items_is}
 use Rattle.sound_model.specs.Wav.{align}
 use Rattle.wav_codec.specs.Info.{form_read}
@@ -14,6 +14,8 @@ fill-requires g c κs within = let place = subst (IsReadTo g.I.Source.outside g.
 pub returns-in_err-frames-clause-short : goal.returns-in_err-frames-clause-short
 returns-in_err-frames-clause-short g c = let info = c.self.inside.info in let same = c.as_mut_slice-2.ensures.value in
     fronts.after_a_fault c.from_residual.result (blocks.short_of c.self.view_is (record {
+      asked = subst (λ n. 0 < n) (ap (λ n. min (info.frames - c.self.inside.done) n * align (form_read info)) (blocks.block_of _ c.self.invariant (ap length same)))
+          c.in_err-frames.ensures.asked;
       lost = λ t. fronts.loses_of _ _ _ _ (ap (λ n. min (info.frames - c.self.inside.done) n * align (form_read info)) (blocks.block_of _ c.self.invariant (ap length same)))
           (c.in_err-frames.ensures.lost t);
       done = refl;

@@ -1,0 +1,23 @@
+-- Why the workers are the core machine, and keep what they promise.
+pub mod MetLemmas
+pub mod WalkLemmas
+pub mod LookLemmas
+pub mod GatherLemmas
+pub mod LeftLemmas
+pub mod EntryLemmas
+pub mod CycleLemmas
+pub mod EndLemmas
+pub mod FaultLemmas
+pub mod AnswerLemmas
+pub mod NeverLemmas
+pub mod NowLemmas
+pub mod NewRingLemmas
+pub mod StartLemmas
+pub mod PublishLemmas
+pub mod BeginLemmas
+pub mod CloseLemmas
+pub mod TotalLemmas
+pub mod TurnLemmas
+pub mod MachineTurnLemmas
+pub mod CoreTurnLemmas
+pub mod PairTurnLemmas

@@ -1,0 +1,78 @@
+-- A turn of the butler beside the process: the process plays on, and notes nothing.
+use Rattle.std.proofs.Common.{◌≡◌, length, refl, sym, ap, subst, ◌∙◌, arith}
+use Rattle.std.specs.Prelude.{Result, Ok, Err}
+use Rattle.ses_io.specs.Outside.{MediaOutside, SourceOutside, SinkOutside}
+use Rattle.machine_model.specs.Core.{Core}
+use Rattle.machine_model.specs.Events.{after}
+use Rattle.machine_model.specs.Letters.{butler_moves}
+use Rattle.disk_ring.specs.Sender.{Sender}
+use Rattle.piece_item.specs.declared.ack.Ack.{Ack}
+use Rattle.piece_item.specs.declared.butler_ends.ButlerEnds.{ButlerEnds}
+use Rattle.butler.specs.declared.turning.Turn.{Turn}
+use Rattle.butler.specs.declared.faults.ButlerFault.{ButlerFault}
+use Rattle.butler.specs.ButlerState.{ButlerState}
+use Rattle.process_cycle.specs.declared.ends.ProcessEnds.{ProcessEnds}
+use Rattle.process_cycle.specs.Ends.{EndsMeet}
+use Rattle.process_cycle.specs.Playing.{IsPlaying}
+use Rattle.process_cycle.specs.ProcessState.{ProcessState}
+use Rattle.process_cycle.specs.Promised.{IsMastered}
+use Rattle.engine_pair.specs.declared.pair.Pair.{Pair}
+use Rattle.engine_pair.specs.Begun.{At, turned, playing_at}
+use Rattle.engine_pair.specs.Runs.{Runs}
+use Rattle.engine_pair.specs.Steps.{PairTurnsAsMachine}
+use Rattle.engine_pair.specs.Tied.{IsTied, rings_of}
+use Rattle.engine_pair.proofs.TurnLemmas.{IsTurned, serves_turned}
+use Rattle.engine_pair.proofs.MachineTurnLemmas.{turn_stands}
+use Rattle.engine_pair.proofs.CoreTurnLemmas.{taken_few, rings_now, idle_now}
+
+module _ {V I W : Type 0} (media : MediaOutside V) (inputs : SourceOutside I) (sinks : SinkOutside W) (at : At) (p : Pair V I W) (runs : Runs media inputs sinks at p) (b : ButlerState V) (ours : ProcessEnds) (theirs : ButlerEnds)
+    (meet : EndsMeet p.process.ends b.ends ours theirs) where
+  -- the pair after it
+  abbrev pub turned_pair : ButlerState V → ProcessState I W → Pair V I W
+  turned_pair c q = record { edition = p.edition; butler = c; process = q; acks = p.acks; played = p.played }
+
+  -- by its butler and its process
+  by_both : (P : Pair V I W → Type 0) (c : ButlerState V) (q : ProcessState I W) → c ≡ record b { ends = theirs } → q ≡ record p.process { ends = ours } →
+      P (turned_pair (record b { ends = theirs }) (record p.process { ends = ours })) → P (turned_pair c q)
+  by_both P c q butler process was = subst (λ z. P (turned_pair z q)) (sym butler) (subst (λ z. P (turned_pair (record b { ends = theirs }) z)) (sym process) was)
+
+  -- the workers run on, where these are butler and process
+  runs_now : (answer : Result Turn ButlerFault) → IsTurned media at (rings_of p) answer b → IsPlaying inputs (playing_at at) (record p.process { ends = ours }) →
+      (IsMastered sinks (playing_at at) p.process → IsMastered sinks (playing_at at) (record p.process { ends = ours })) →
+      Runs media inputs sinks (turned p.edition.edits at) (turned_pair (record b { ends = theirs }) (record p.process { ends = ours }))
+  runs_now answer turn playing mastered = record {
+    serves = serves_turned media at (rings_of p) answer b runs.serves turn ours theirs meet (record b { ends = theirs }) refl;
+    has_played = record { few = runs.has_played.few; edits = runs.has_played.edits };
+    playing = playing;
+    mastered = λ header. mastered (runs.mastered header);
+    control = runs.control ∙ sym (ap (λ (z : Sender Ack). z.ring) meet.to_control);
+    asked = runs.asked ∙ sym turn.rest.cycles;
+  }
+
+  -- and are tied to the state of the core machine after its letter
+  tied_now : (t : Turn) → IsTurned media at (rings_of p) (Ok t) b → (c : Core) → IsTied at.begun.session c p →
+      IsTied at.begun.session (after at.begun.session p.butler.cycles c (butler_moves at.begun.session p.butler.cycles c)) (turned_pair (record b { ends = theirs }) (record p.process { ends = ours }))
+  tied_now t turn c tied = let stands = turn_stands at.begun.session p.butler.cycles c (taken_few media at (rings_of p) t b runs.serves turn ours theirs meet c tied.rings) in record {
+    rings = rings_now media at (rings_of p) t b runs.serves turn ours theirs meet c tied.rings;
+    entries = stands.entries ∙ tied.entries;
+    told_butler = omega (arith, stands.told_butler, ap length stands.entries, tied.told_butler);
+    told_control = omega (arith, stands.told_control, ap length stands.entries, tied.told_control);
+  }
+
+  -- whatever the turn answers
+  as_machine_now : (answer : Result Turn ButlerFault) → IsTurned media at (rings_of p) answer b →
+      PairTurnsAsMachine at.begun.session p answer (turned_pair (record b { ends = theirs }) (record p.process { ends = ours }))
+  as_machine_now (Ok t) turn c tied = (tied_now t turn c tied, idle_now media at (rings_of p) t b runs.serves turn ours theirs meet c tied.rings)
+  as_machine_now (Err fault) turn c tied = tt
+
+  module _ (c : ButlerState V) (q : ProcessState I W) (butler : c ≡ record b { ends = theirs }) (process : q ≡ record p.process { ends = ours }) (answer : Result Turn ButlerFault)
+      (turn : IsTurned media at (rings_of p) answer b) where
+    -- the workers run on
+    pub runs_turned : (IsPlaying inputs (playing_at at) p.process → IsPlaying inputs (playing_at at) q) → (IsMastered sinks (playing_at at) p.process → IsMastered sinks (playing_at at) q) →
+        Runs media inputs sinks (turned p.edition.edits at) (turned_pair c q)
+    runs_turned playing mastered = by_both (Runs media inputs sinks (turned p.edition.edits at)) c q butler process
+        (runs_now answer turn (subst (IsPlaying inputs (playing_at at)) process (playing runs.playing)) (λ was. subst (IsMastered sinks (playing_at at)) process (mastered was)))
+
+    -- and are tied to the state of the core machine after its letter
+    pub as_machine_turned : PairTurnsAsMachine at.begun.session p answer (turned_pair c q)
+    as_machine_turned = by_both (PairTurnsAsMachine at.begun.session p answer) c q butler process (as_machine_now answer turn)

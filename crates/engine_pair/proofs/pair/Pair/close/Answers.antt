@@ -1,0 +1,51 @@
+use Rattle.std.proofs.Common.{◌≡◌, refl, sym, ap, subst, ◌∙◌}
+use Rattle.butler.specs.ButlerState.{resumed}
+use Rattle.butler.specs.Serving.{AreStocked}
+use Rattle.process_cycle.specs.Ends.{AreOtherEnds, EndsMeet, shut_ends}
+use Rattle.engine_pair.specs.declared.ending.Stopped.{Stopped}
+use Rattle.engine_pair.specs.Closes.{Closes}
+use Rattle.engine_pair.specs.Runs.{Serves}
+use Rattle.engine_pair.specs.Tied.{AreRingsOf, rings_of}
+use Rattle.engine_pair.proofs.CloseLemmas as closing
+use Rattle.engine_pair.proofs.pair.Pair.close.Goals as goal
+
+-- src/ending.rt
+pub meet_ends-requires : goal.meet_ends-requires
+meet_ends-requires g c = let self = c.args.self in
+    subst (λ e. AreOtherEnds e c.rest-resting.result.1) (sym c.parts-input.ensures.ends) (subst (λ e. AreOtherEnds (shut_ends self.process.ends) e) (sym c.rest-resting.ensures.ends)
+    (closing.others_shut self.process.ends self.butler.ends c.requires.1.1.1.serves.others))
+
+pub resume-requires-clause-stocked : goal.resume-requires-clause-stocked
+resume-requires-clause-stocked g c = let self = c.args.self in let ours = c.meet_ends.new.ours in let theirs = c.meet_ends.new.theirs in let r = c.rest-resting.result.0 in let was = c.rest-resting.ensures.ends in
+    let meet : EndsMeet (shut_ends self.process.ends) self.butler.ends ours theirs =
+    subst (λ e. EndsMeet e self.butler.ends ours theirs) c.parts-input.ensures.ends (subst (λ e. EndsMeet c.parts-input.result.ends e ours theirs) was c.meet_ends.ensures) in
+    closing.stocked_still (rings_of self) c.requires.1.1.1.serves.others ours theirs meet g.at.begun.session g.at.served r (subst (λ e. AreStocked r.supplies r.drain e) was c.rest-resting.ensures.stocked)
+
+pub resume-requires-clause-ended : goal.resume-requires-clause-ended
+resume-requires-clause-ended g c = let self = c.args.self in let ours = c.meet_ends.new.ours in let theirs = c.meet_ends.new.theirs in let was = c.rest-resting.ensures.ends in
+    let meet : EndsMeet (shut_ends self.process.ends) self.butler.ends ours theirs =
+    subst (λ e. EndsMeet e self.butler.ends ours theirs) c.parts-input.ensures.ends (subst (λ e. EndsMeet c.parts-input.result.ends e ours theirs) was c.meet_ends.ensures) in
+    closing.ended_still (rings_of self) c.requires.1.1.1.serves.others ours theirs meet ∙ sym (ap (λ r. r.ended) c.rest-resting.ensures.rested)
+
+pub returns-clause-serves : goal.returns-clause-serves
+returns-clause-serves g c = let self = c.args.self in let ours = c.meet_ends.new.ours in let theirs = c.meet_ends.new.theirs in let M = g.M.Media.outside in
+    let meet : EndsMeet (shut_ends self.process.ends) self.butler.ends ours theirs =
+    subst (λ e. EndsMeet e self.butler.ends ours theirs) c.parts-input.ensures.ends (subst (λ e. EndsMeet c.parts-input.result.ends e ours theirs) c.rest-resting.ensures.ends c.meet_ends.ensures) in
+    let butler : c.resume.result ≡ record self.butler { ends = theirs } = c.resume.ensures ∙ ap (λ r. resumed r theirs) c.rest-resting.ensures.rested in
+    subst (λ b. Serves M g.at (record { edition = self.edition; butler = b; ends = ours })) (sym butler) (closing.serves_closed (rings_of self) c.requires.1.1.1.serves.others ours theirs meet M g.at c.requires.1.1.1.serves)
+
+pub returns-clause-closes : goal.returns-clause-closes
+returns-clause-closes g c = let self = c.args.self in let ours = c.meet_ends.new.ours in let theirs = c.meet_ends.new.theirs in let parts = c.parts-input in
+    let meet : EndsMeet (shut_ends self.process.ends) self.butler.ends ours theirs =
+    subst (λ e. EndsMeet e self.butler.ends ours theirs) parts.ensures.ends (subst (λ e. EndsMeet parts.result.ends e ours theirs) c.rest-resting.ensures.ends c.meet_ends.ensures) in
+    let butler : c.resume.result ≡ record self.butler { ends = theirs } = c.resume.ensures ∙ ap (λ r. resumed r theirs) c.rest-resting.ensures.rested in
+    let stopped : Stopped g.row.I.Denot g.row.W.Denot = record { input = parts.result.input; master = parts.result.master; journal = parts.result.journal; acks = self.acks } in
+    subst (λ b. Closes self (record { edition = self.edition; butler = b; ends = ours }) stopped) (sym butler)
+    (closing.closes self c.requires.1.1.1.serves.others ours theirs meet stopped parts.ensures.input parts.ensures.master parts.ensures.journal refl)
+
+pub returns-clause-as_machine : goal.returns-clause-as_machine
+returns-clause-as_machine g c = λ k was. let self = c.args.self in let s = g.at.begun.session in let ours = c.meet_ends.new.ours in let theirs = c.meet_ends.new.theirs in
+    let meet : EndsMeet (shut_ends self.process.ends) self.butler.ends ours theirs =
+    subst (λ e. EndsMeet e self.butler.ends ours theirs) c.parts-input.ensures.ends (subst (λ e. EndsMeet c.parts-input.result.ends e ours theirs) c.rest-resting.ensures.ends c.meet_ends.ensures) in
+    let butler : c.resume.result ≡ record self.butler { ends = theirs } = c.resume.ensures ∙ ap (λ r. resumed r theirs) c.rest-resting.ensures.rested in
+    subst (λ b. AreRingsOf s k (record { edition = self.edition; butler = b; ends = ours })) (sym butler) (closing.closed_rings (rings_of self) c.requires.1.1.1.serves.others ours theirs meet s k was)

@@ -1,9 +1,0 @@
-use Rattle.std.proofs.Common.{◌≡◌, length}
-use Rattle.std.specs.Prelude.{All}
-use Rattle.engine_tests.proofs.bench.rings.blanks.Given as goal
-
-abbrev pub invariant-loop-made : goal.invariant-loop-made
-invariant-loop-made l = record {
-  count : length l.blanks.items ≡ l.made;
-  room : All (λ b. length b.value.samples.items ≡ l.block) l.blanks.items;
-}

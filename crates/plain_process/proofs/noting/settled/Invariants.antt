@@ -1,9 +1,0 @@
-use Rattle.std.proofs.Common.{◌≡◌, map}
-use Rattle.engine_model.specs.Cycle.{settled_number}
-use Rattle.plain_process.specs.SpareBoxes.{received_kinds}
-use Rattle.plain_process.proofs.NotingLemmas.{left}
-use Rattle.plain_process.proofs.noting.settled.Given as goal
-
--- the least so far, and the marks of the tracks that are left
-abbrev pub invariant-loop-playback : goal.invariant-loop-playback
-invariant-loop-playback g l = settled_number l.least l.at.generation l.at.next (left g.plays l.playback-index) ≡ settled_number l.fn.number l.at.generation l.at.next (map received_kinds g.plays)

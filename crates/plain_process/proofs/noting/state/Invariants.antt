@@ -1,4 +1,0 @@
-use Rattle.plain_process.proofs.noting.state.Given as goal
-
-abbrev pub ghost-waiting : goal.ghost-waiting
-ghost-waiting g a = g.plays

@@ -1,0 +1,136 @@
+//! Looks and cycles between edits.
+use super::{NO_FAULT, Run};
+use crate::sessions::{FIVE_TO_EIGHT, HEAD_3, HEAD_4, ONE_TO_FOUR, SILENCE, TWENTY};
+use crate::steps::Step;
+use cycle_journal::{Play, State, Take};
+use process_cycle::Look;
+
+pub(crate) const RUNS: &[Run] = &[
+    // after a locate in an open cycle it looks again, and seeks until the first piece of the new generation comes
+    Run {
+        input: TWENTY,
+        frames: 20,
+        fails: NO_FAULT,
+        cycles: 4,
+        steps: &[
+            Step::Begin(Some(Ok(()))),
+            Step::Edit("roll"),
+            Step::Cycle(None),
+            Step::Mark(0, 0, 0),
+            Step::Piece(0, 0, 0, &[256, 512, 768, 1024]),
+            Step::Full(0, 1, 0, &[256, 512, 768, 1024]),
+            Step::Look(Some(Look::Ready)),
+            Step::Edit("locate 8"),
+            Step::Cycle(None),
+            Step::Look(Some(Look::Short)),
+            Step::Cycle(Some(Ok(()))),
+            Step::Entry(
+                1,
+                (2, 0),
+                State::Seeking { track: 0, tail: 2 },
+                Play::Silent,
+                Take::Off,
+            ),
+            Step::Ack(1, 1, 0, 0),
+            Step::NoAck,
+            Step::Cycle(None),
+            Step::Mark(2, 1, 0),
+            Step::Look(Some(Look::Short)),
+            Step::Cycle(Some(Ok(()))),
+            Step::Entry(
+                2,
+                (2, 2),
+                State::Seeking { track: 0, tail: 3 },
+                Play::Silent,
+                Take::Off,
+            ),
+            Step::Piece(1, 0, 0, &[1280, 1536, -256, -512]),
+            Step::Look(Some(Look::Ready)),
+            Step::Cycle(Some(Ok(()))),
+            Step::Entry(
+                3,
+                (2, 2),
+                State::Rolling {
+                    generation: 1,
+                    seq: 0,
+                },
+                Play::Heard(0),
+                Take::Off,
+            ),
+            Step::Ack(2, 1, 0, 2),
+            Step::Ack(3, 1, 1, 2),
+            Step::NoAck,
+            Step::NoBlock,
+            Step::Silence(Some(Ok(()))),
+            Step::Look(None),
+            Step::Cycle(None),
+        ],
+        master: &[
+            HEAD_4,
+            SILENCE,
+            SILENCE,
+            b"\x05\0\x06\0\xff\xff\xfe\xff",
+            SILENCE,
+        ],
+    },
+    // a piece by a newer playlist than the edition's is heard, and no more is settled than the edition
+    Run {
+        input: TWENTY,
+        frames: 20,
+        fails: NO_FAULT,
+        cycles: 3,
+        steps: &[
+            Step::Begin(Some(Ok(()))),
+            Step::Edit("roll"),
+            Step::Mark(0, 0, 0),
+            Step::Piece(0, 0, 2, &[256, 512, 768, 1024]),
+            Step::Look(Some(Look::Ready)),
+            Step::Cycle(Some(Ok(()))),
+            Step::Entry(
+                1,
+                (1, 0),
+                State::Rolling {
+                    generation: 0,
+                    seq: 0,
+                },
+                Play::Heard(2),
+                Take::Off,
+            ),
+            Step::Ack(1, 0, 1, 0),
+            Step::Mark(2, 0, 1),
+            Step::Piece(0, 1, 2, &[1280, 1536, 1792, 2048]),
+            Step::Look(Some(Look::Ready)),
+            Step::Cycle(Some(Ok(()))),
+            Step::Entry(
+                2,
+                (1, 1),
+                State::Rolling {
+                    generation: 0,
+                    seq: 1,
+                },
+                Play::Heard(2),
+                Take::Off,
+            ),
+            Step::Ack(2, 0, 2, 1),
+            Step::Edit("rgain t 1 32768"),
+            Step::Piece(0, 2, 2, &[256, 512, 768, 1024]),
+            Step::Look(Some(Look::Ready)),
+            Step::Cycle(Some(Ok(()))),
+            Step::Entry(
+                3,
+                (2, 2),
+                State::Rolling {
+                    generation: 0,
+                    seq: 2,
+                },
+                Play::Heard(2),
+                Take::Off,
+            ),
+            Step::Ack(3, 0, 3, 2),
+            Step::Look(Some(Look::Short)),
+            Step::Cycle(None),
+            Step::Entries(3),
+        ],
+        master: &[HEAD_3, ONE_TO_FOUR, FIVE_TO_EIGHT, ONE_TO_FOUR],
+    },
+];

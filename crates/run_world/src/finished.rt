@@ -1,0 +1,42 @@
+//! A run that has ended.
+use cycle_journal::Journal;
+use disk_ring::Ring;
+use piece_item::Ack;
+use run_rings::RingsList;
+use ses_io::World;
+use session_model::EditList;
+
+/// What went wrong in a run: each is set exactly where its object's count rose, but for the last
+/// two.
+#[derive(Clone, Copy, Debug, Default, PartialEq, Eq)]
+pub struct Faults {
+    /// A read of the input failed.
+    pub input: bool,
+    /// A write of the master failed.
+    pub master: bool,
+    /// A call that reads the media failed.
+    pub read: bool,
+    /// A call that writes the media failed.
+    pub write: bool,
+    /// A read of control failed.
+    pub control: bool,
+    /// Control gave more bytes than are read, with no accepted `quit` in them.
+    pub long: bool,
+    /// A write of the replies failed.
+    pub out: bool,
+    /// A call answered want of memory.
+    pub memory: bool,
+}
+
+/// All that a run leaves.
+#[derive(Drop)]
+pub struct Finished<M, I, C, W, O> {
+    pub world: World<M, I, C, W, O>,
+    pub journal: Journal,
+    /// The accepted edits.
+    pub edits: EditList,
+    pub rings: RingsList,
+    /// The ring of acknowledgements to control.
+    pub acks: Ring<Ack>,
+    pub faults: Faults,
+}

@@ -1,0 +1,8 @@
+//! What a run begins with, and what it leaves.
+#![tactic(auto)]
+
+mod finished;
+mod opened;
+
+pub use finished::{Faults, Finished};
+pub use opened::{Opened, Script};
