@@ -24,13 +24,13 @@ use Rattle.machine_laws.proofs.LetterLemmas.{after_edits, butler_others, gather_
 use Rattle.machine_laws.proofs.OwesLemmas.{one_reply}
 
 -- what is still to be answered
-abbrev Later : Session → Option Awaited → List Edit → List Line → List Reply → Type 0
+abbrev pub Later : Session → Option Awaited → List Edit → List Line → List Reply → Type 0
 Later session None edits lines later = AreReplies session edits lines later
 Later session (Some (Entries n)) edits lines later = Begin Done (AreReplies session edits lines) later
 Later session (Some (SettledIn k)) edits lines later = BeginSynced (length edits) (AreReplies session edits lines) later
 
 -- What stands of control and the edits after any letters.
-record Answers (session : Session) (all : List Line) (edits : List Edit) (control : Control) : Type 0 where
+pub record Answers (session : Session) (all : List Line) (edits : List Edit) (control : Control) : Type 0 where
   pub accepted : accepted_from session edits control.lines ≡ accepted_of session all
   -- after a quit no line is left, and nothing is waited for
   pub ended : has_quit edits (length edits) ≡ true → (control.lines ≡ []) × (control.awaits ≡ None)
@@ -175,7 +175,7 @@ module _ (session : Session) (cycles : ℕ) (all : List Line) (c : Core) where
 
 -- ---- all letters
 
-answers_letter : (session : Session) (cycles : ℕ) (all : List Line) (m : Machine) (letter : Letter) → Answers session all m.core.edits m.control →
+pub answers_letter : (session : Session) (cycles : ℕ) (all : List Line) (m : Machine) (letter : Letter) → Answers session all m.core.edits m.control →
     Answers session all (by_letter session cycles m letter).core.edits (by_letter session cycles m letter).control
 answers_letter session cycles all m C a = answers_control session cycles all m.core m.control m.control.awaits refl a
 answers_letter session cycles all m B a =
@@ -191,7 +191,7 @@ answers_letters : (session : Session) (cycles : ℕ) (all : List Line) (m : Mach
 answers_letters session cycles all m [] a = a
 answers_letters session cycles all m (letter ∷ letters) a = answers_letters session cycles all (by_letter session cycles m letter) letters (answers_letter session cycles all m letter a)
 
-answers_at_first : (session : Session) (lines : List Line) → Answers session lines [] (begins session lines).control
+pub answers_at_first : (session : Session) (lines : List Line) → Answers session lines [] (begins session lines).control
 answers_at_first session lines = record { accepted = refl; ended = λ q. absurd (false≢true q); newest = λ k e. absurd (none-some (SettledIn k) e); replies = λ later h. h }
 
 pub edits_are_those_of_lines : EditsAreThoseOfLines

@@ -53,12 +53,9 @@ last_there e before = ap (λ l. slice_get l (suc (length before) - 1)) (reverse-
     place : (n : ℕ) → length (reverse before) ≡ n → suc n - 1 ≡ length (reverse before)
     place n f = omega (arith, f)
 
-synced_holds : (session : Session) (cycles k : ℕ) (c : Core) → Stands session cycles c → is_over cycles c (SettledIn k) ≡ true → Holds cycles c (synced_by k c.entries)
-synced_holds session cycles k c s over = by c.entries refl over
+synced_holds : (session : Session) (cycles k : ℕ) (c : Core) → is_lawful_newest session c.edits c.entries ≡ true → is_over cycles c (SettledIn k) ≡ true → Holds cycles c (synced_by k c.entries)
+synced_holds session cycles k c lawful over = by c.entries refl over
   where
-    lawful : is_lawful_newest session c.edits c.entries ≡ true
-    lawful = ap (is_lawful_newest session c.edits) (sym (reverse-reverse c.entries)) ∙ standing_is_lawful session cycles c s
-
     by : (entries : List Entry) → c.entries ≡ entries → is_last_settled k entries || is_played_out cycles c ≡ true → Holds cycles c (synced_by k entries)
     by [] is h = (h, ap (list_all (λ e. nat_lt e.settled k)) is)
     by (e ∷ before) is h = settled (nat_le k e.settled) refl h
@@ -75,13 +72,13 @@ synced_holds session cycles k c s over = by c.entries refl over
               ∙ none_settled session c.edits k e before (ap (is_lawful_newest session c.edits) (sym is) ∙ lawful) (leb-false k e.settled f),
         )
 
-answer_holds : (session : Session) (cycles : ℕ) (c : Core) (a : Awaited) → Stands session cycles c → is_over cycles c a ≡ true → Holds cycles c (answer_to c a)
-answer_holds session cycles c (Entries n) s over = tt
-answer_holds session cycles c (SettledIn k) s over = synced_holds session cycles k c s over
+answer_holds : (session : Session) (cycles : ℕ) (c : Core) (a : Awaited) → is_lawful_newest session c.edits c.entries ≡ true → is_over cycles c a ≡ true → Holds cycles c (answer_to c a)
+answer_holds session cycles c (Entries n) lawful over = tt
+answer_holds session cycles c (SettledIn k) lawful over = synced_holds session cycles k c lawful over
 
 -- ---- control
 
-module _ (session : Session) (cycles : ℕ) (c : Core) (s : Stands session cycles c) where
+module _ (session : Session) (cycles : ℕ) (c : Core) (lawful : is_lawful_newest session c.edits c.entries ≡ true) where
   edit_holds : (answer : Checked Edition) (quits : Bool) (rest : Control) → AllHold cycles c rest.replies → AllHold cycles c (edit_done answer quits rest).replies
   edit_holds (Err why) quits rest h = (tt, h)
   edit_holds (Ok next) true rest h = (tt, h)
@@ -91,7 +88,7 @@ module _ (session : Session) (cycles : ℕ) (c : Core) (s : Stands session cycle
   wait_holds a rest h = by (is_over cycles c a) refl
     where
       by : (b : Bool) → is_over cycles c a ≡ b → AllHold cycles c (if b then replying (answer_to c a) rest else record rest { awaits = Some a }).replies
-      by true over = (answer_holds session cycles c a s over, h)
+      by true over = (answer_holds session cycles c a lawful over, h)
       by false over = h
 
   line_holds : (rest : Control) (line : Line) → AllHold cycles c rest.replies → AllHold cycles c (line_done session cycles c rest line).replies
@@ -105,20 +102,21 @@ module _ (session : Session) (cycles : ℕ) (c : Core) (s : Stands session cycle
   next_holds control [] h = h
   next_holds control (line ∷ lines) h = line_holds (record control { lines = lines }) line h
 
-  control_holds : (control : Control) (awaits : Option Awaited) → AllHold cycles c control.replies → AllHold cycles c (control_by session cycles c control awaits).replies
+  pub control_holds : (control : Control) (awaits : Option Awaited) → AllHold cycles c control.replies → AllHold cycles c (control_by session cycles c control awaits).replies
   control_holds control None h = next_holds control control.lines h
   control_holds control (Some a) h = by (is_over cycles c a) refl
     where
       by : (b : Bool) → is_over cycles c a ≡ b →
           AllHold cycles c (if b then next_line_done session cycles c (record (replying (answer_to c a) control) { awaits = None }) control.lines else control).replies
-      by true over = next_holds (record (replying (answer_to c a) control) { awaits = None }) control.lines (answer_holds session cycles c a s over, h)
+      by true over = next_holds (record (replying (answer_to c a) control) { awaits = None }) control.lines (answer_holds session cycles c a lawful over, h)
       by false over = h
 
 -- ---- letters
 
 letter_holds : (session : Session) (cycles : ℕ) (m : Machine) (letter : Letter) → Stands session cycles m.core → AllHold cycles m.core m.control.replies →
     AllHold cycles m.core (control_after session cycles m letter).replies
-letter_holds session cycles m C s h = control_holds session cycles m.core s m.control m.control.awaits h
+letter_holds session cycles m C s h = control_holds session cycles m.core
+    (ap (is_lawful_newest session m.core.edits) (sym (reverse-reverse m.core.entries)) ∙ standing_is_lawful session cycles m.core s) m.control m.control.awaits h
 letter_holds session cycles m B s h = h
 letter_holds session cycles m E s h = h
 letter_holds session cycles m G s h = h
