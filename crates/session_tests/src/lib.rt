@@ -11,6 +11,8 @@ mod places;
 #[cfg(test)]
 mod refusals;
 #[cfg(test)]
+mod replies;
+#[cfg(test)]
 mod route_orders;
 #[cfg(test)]
 mod row;

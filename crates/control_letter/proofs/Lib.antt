@@ -1,0 +1,6 @@
+-- Why control's calls do its letter.
+pub mod FrontLemmas
+pub mod LineLemmas
+pub mod LetterLemmas
+pub mod TakenLemmas
+pub mod WholeLemmas

@@ -1,0 +1,3 @@
+-- The letter of control, put together of what its calls do.
+pub mod Shown
+pub mod Letter
