@@ -1,0 +1,5 @@
+use Rattle.worker_pair.specs.Begun.{served_at}
+use Rattle.worker_pair.proofs.ending.Ending.turn.Given as goal
+
+abbrev pub ghost-turn : goal.ghost-turn
+ghost-turn g a = served_at g.at

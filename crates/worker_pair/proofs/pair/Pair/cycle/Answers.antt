@@ -1,0 +1,66 @@
+use Rattle.std.proofs.Common.{sym, ap, subst, ◌∙◌}
+use Rattle.std.specs.Prelude.{OnOk}
+use Rattle.std.proofs.lemmas.Result.{on_ok_weaker}
+use Rattle.butler.specs.ButlerState.{resumed}
+use Rattle.butler.specs.Serving.{AreStocked}
+use Rattle.butler.proofs.MeetingLemmas.{meeting_keeps}
+use Rattle.process_cycle.specs.Ends.{AreOtherEnds, EndsMeet}
+use Rattle.process_cycle.specs.Playing.{IsPlaying}
+use Rattle.process_cycle.specs.Promised.{IsMastered}
+use Rattle.worker_pair.specs.Begun.{playing_at}
+use Rattle.worker_pair.specs.Plays.{Cycles}
+use Rattle.worker_pair.specs.Runs.{Rests, Runs}
+use Rattle.worker_pair.specs.Steps.{EndsAsMachine}
+use Rattle.worker_pair.proofs.AnswerLemmas as answers
+use Rattle.worker_pair.proofs.MetLemmas.{are_told}
+use Rattle.worker_pair.proofs.pair.Pair.cycle.Goals as goal
+
+pub cycle-answer-requires : goal.cycle-answer-requires
+cycle-answer-requires g c κs within = let may = c.requires.1.1.1 in let was = may.runs.entered in (
+  within.0,
+  (within.1, record { playing = may.runs.playing; edition = was.edition_of; given = sym may.given; looked = may.looked; room = was.room may.in_cycle; unended = was.unended may.in_cycle }),
+)
+
+pub meet-requires : goal.meet-requires
+meet-requires g c κs within = let M = g.M.Media.outside in let I = g.I.Source.outside in let W = g.W.Sink.outside in let self = c.args.self in let may = c.requires.1.1.1 in
+    let q = c.cycle-answer.new.self in let cycle = c.cycle-answer.ensures in let answer = c.cycle-answer.result in
+    (within.0, (within.1, subst (AreOtherEnds q.ends) (sym c.rest-resting.ensures.ends) (answers.others_either M I W g.at self may q answer cycle.made cycle.fault)))
+
+pub resume-requires-clause-stocked : goal.resume-requires-clause-stocked
+resume-requires-clause-stocked g c = let M = g.M.Media.outside in let I = g.I.Source.outside in let W = g.W.Sink.outside in let self = c.args.self in let may = c.requires.1.1.1 in
+    let q = c.cycle-answer.new.self in let cycle = c.cycle-answer.ensures in let answer = c.cycle-answer.result in let ours = c.meet.new.self.ends in let theirs = c.meet.new.other in
+    let ends : EndsMeet q.ends self.butler.ends ours theirs = subst (λ e. EndsMeet q.ends e ours theirs) c.rest-resting.ensures.ends c.meet.ensures.ends in let r = c.rest-resting.result.0 in
+    (meeting_keeps self.edition.session self.edition.edits r self.butler.ends theirs (are_told q.ends ours self.butler.ends theirs (answers.others_either M I W g.at self may q answer cycle.made cycle.fault) ends)).stocked
+    (subst (AreStocked r.supplies r.drain) c.rest-resting.ensures.ends c.rest-resting.ensures.stocked)
+
+pub returns-clause-runs : goal.returns-clause-runs
+returns-clause-runs g c = let M = g.M.Media.outside in let I = g.I.Source.outside in let W = g.W.Sink.outside in let self = c.args.self in let may = c.requires.1.1.1 in
+    let q = c.cycle-answer.new.self in let cycle = c.cycle-answer.ensures in let answer = c.cycle-answer.result in let ours = c.meet.new.self.ends in let theirs = c.meet.new.other in
+    let ends : EndsMeet q.ends self.butler.ends ours theirs = subst (λ e. EndsMeet q.ends e ours theirs) c.rest-resting.ensures.ends c.meet.ensures.ends in
+    let whole = answers.whole M I W g.at self may q ours theirs ends c.resume.result c.meet.new.self (c.resume.ensures ∙ ap (λ r. resumed r theirs) c.rest-resting.ensures.rested) c.meet.ensures.same in
+    subst (λ p. OnOk answer (Runs M I W g.at p)) (sym whole) (answers.runs_either M I W g.at self may q ours theirs ends answer cycle.made
+    (on_ok_weaker answer (λ playing. subst (IsPlaying I (playing_at g.at)) c.meet.ensures.same (c.meet.ensures.playing playing)) cycle.playing)
+    (on_ok_weaker answer (λ mastered head. subst (IsMastered W (playing_at g.at)) c.meet.ensures.same (c.meet.ensures.master (mastered (may.runs.mastered head)))) cycle.master))
+
+pub returns-clause-rests : goal.returns-clause-rests
+returns-clause-rests g c = let M = g.M.Media.outside in let I = g.I.Source.outside in let W = g.W.Sink.outside in let self = c.args.self in let may = c.requires.1.1.1 in
+    let q = c.cycle-answer.new.self in let cycle = c.cycle-answer.ensures in let answer = c.cycle-answer.result in let ours = c.meet.new.self.ends in let theirs = c.meet.new.other in
+    let ends : EndsMeet q.ends self.butler.ends ours theirs = subst (λ e. EndsMeet q.ends e ours theirs) c.rest-resting.ensures.ends c.meet.ensures.ends in
+    let whole = answers.whole M I W g.at self may q ours theirs ends c.resume.result c.meet.new.self (c.resume.ensures ∙ ap (λ r. resumed r theirs) c.rest-resting.ensures.rested) c.meet.ensures.same in
+    subst (Rests M g.at) (sym whole) (answers.rests_either M I W g.at self may q ours theirs ends answer (answers.runs_either M I W g.at self may q ours theirs ends answer cycle.made
+    (on_ok_weaker answer (λ playing. subst (IsPlaying I (playing_at g.at)) c.meet.ensures.same (c.meet.ensures.playing playing)) cycle.playing)
+    (on_ok_weaker answer (λ mastered head. subst (IsMastered W (playing_at g.at)) c.meet.ensures.same (c.meet.ensures.master (mastered (may.runs.mastered head)))) cycle.master)) cycle.fault cycle.of)
+
+pub returns-clause-cycles : goal.returns-clause-cycles
+returns-clause-cycles g c = let M = g.M.Media.outside in let I = g.I.Source.outside in let W = g.W.Sink.outside in let self = c.args.self in let may = c.requires.1.1.1 in
+    let q = c.cycle-answer.new.self in let cycle = c.cycle-answer.ensures in let answer = c.cycle-answer.result in let ours = c.meet.new.self.ends in let theirs = c.meet.new.other in
+    let ends : EndsMeet q.ends self.butler.ends ours theirs = subst (λ e. EndsMeet q.ends e ours theirs) c.rest-resting.ensures.ends c.meet.ensures.ends in
+    let whole = answers.whole M I W g.at self may q ours theirs ends c.resume.result c.meet.new.self (c.resume.ensures ∙ ap (λ r. resumed r theirs) c.rest-resting.ensures.rested) c.meet.ensures.same in
+    subst (Cycles I W g.at self answer) (sym whole) (answers.cycles_either M I W g.at self may q ours theirs ends answer cycle.made cycle.reads cycle.writes cycle.fault)
+
+pub returns-clause-as_machine : goal.returns-clause-as_machine
+returns-clause-as_machine g c = let M = g.M.Media.outside in let I = g.I.Source.outside in let W = g.W.Sink.outside in let self = c.args.self in let may = c.requires.1.1.1 in
+    let q = c.cycle-answer.new.self in let cycle = c.cycle-answer.ensures in let answer = c.cycle-answer.result in let ours = c.meet.new.self.ends in let theirs = c.meet.new.other in
+    let ends : EndsMeet q.ends self.butler.ends ours theirs = subst (λ e. EndsMeet q.ends e ours theirs) c.rest-resting.ensures.ends c.meet.ensures.ends in
+    let whole = answers.whole M I W g.at self may q ours theirs ends c.resume.result c.meet.new.self (c.resume.ensures ∙ ap (λ r. resumed r theirs) c.rest-resting.ensures.rested) c.meet.ensures.same in
+    subst (EndsAsMachine g.at.begun.session self answer) (sym whole) (answers.ends_either M I W g.at self may q ours theirs ends answer cycle.made)

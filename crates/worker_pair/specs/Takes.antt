@@ -1,0 +1,34 @@
+-- What is so of take files, and of all other files, while a run plays.
+use Rattle.std.specs.Prelude.{◌≡◌, ℕ, true, false, List, ◌++◌, slice_get, Some, IsSome, codes}
+use Rattle.ses_io.specs.Files.{Files, HasNameUnder}
+use Rattle.ses_io.specs.Outside.{MediaOutside}
+use Rattle.session_model.specs.declared.session.Session.{Session}
+use Rattle.audio_source.specs.Opened.{OpenedSource}
+use Rattle.capture_flush.specs.Flushed.{IsFlushed, IsFlushedInPart}
+use Rattle.capture_drain.specs.Files.{RunStart, tape_of, OtherFilesStand}
+use Rattle.butler.specs.ButlerState.{ButlerState}
+use Rattle.worker_pair.specs.Begun.{Begun}
+
+-- Tracks may be recorded: no file is named as takes are, and the files of the sources are there.
+pub record MayRecord (s : Session) (files : Files) (opened : List OpenedSource) : Type 0 where
+  pub fresh : ¬ (HasNameUnder files (s.takes ++ codes "-"))
+  pub there : (i : ℕ) (o : OpenedSource) → slice_get opened i ≡ Some o → IsSome (files o.file)
+
+-- the session, and the files before the first block
+abbrev pub run_of : Begun → RunStart
+run_of begun = record { session = begun.session; held = begun.files }
+
+-- What the butler wrote: the take files hold just the blocks that it received, and after a failed write a front of them.
+pub record HoldsTakes {V : Type 0} (media : MediaOutside V) (begun : Begun) (b : ButlerState V) : Type 0 where
+  pub whole : b.write_failed ≡ false → IsFlushed (tape_of (run_of begun) b.ends.takes.items) b.drain.files (media.files b.media)
+  pub in_part : b.write_failed ≡ true → IsFlushedInPart (tape_of (run_of begun) b.ends.takes.items) (media.files b.media)
+
+-- What is so of the media's files.
+pub record FilesStand {V : Type 0} (media : MediaOutside V) (begun : Begun) (b : ButlerState V) : Type 0 where
+  -- only take files have changed,
+  pub others : media.tells → OtherFilesStand begun.session begun.files (media.files b.media)
+  -- and none at all where nothing is to be recorded
+  pub same : begun.records ≡ false → media.files b.media ≡ begun.files
+  -- where tracks may be recorded, takes are held as they came
+  pub may_record : begun.records ≡ true → media.tells → MayRecord begun.session begun.files b.sources.opened
+  pub takes : begun.records ≡ true → media.tells → HoldsTakes media begun b
