@@ -35,7 +35,7 @@ abbrev pub HasGoneOn : Session → ℕ → Run → Phase → Standing → Type 0
 HasGoneOn s cycles run phase st = (more : List Line) → MayCome st more →
     LeadsTo s cycles (record { phase = Between; machine = before_rest s cycles run more }) (record { phase = phase; machine = machine_of st more })
 
--- **Control has carried out a letter of its own**, and took these lines for it: one or none.
+-- **Control has carried out a letter of its own**, by these lines. How many it took is for whoever says so of control.
 pub record Carries (s : Session) (cycles : ℕ) (old : Standing) (taken : List Line) (new : Standing) : Type 0 where
   -- what may come after them now could come with them before
   pub may : (more : List Line) → MayCome new more → MayCome old (taken ++ more)
