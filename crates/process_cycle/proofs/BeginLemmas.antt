@@ -37,5 +37,5 @@ module _ {I W : Type 0} where
     cycles = was.cycles;
     within = was.within;
     promises = was.promises;
-    of_input = was.of_input;
+    hears = was.hears;
   }

@@ -1,13 +1,12 @@
 -- What a capture ring was given stands with one entry more, which took of its track what was captured.
-use Rattle.std.proofs.Common.{◌≡◌, inl, inr, ℕ, suc, ◌+◌, ◌*◌, ◌<◌, ◌≤◌, List, [], ◌∷◌, ◌++◌, length, map, reverse, refl, sym, ap, subst, arith, ◌∙◌}
+use Rattle.std.proofs.Common.{◌≡◌, inl, inr, ℕ, suc, ◌+◌, ◌<◌, ◌≤◌, List, [], ◌∷◌, ◌++◌, length, map, reverse, refl, sym, ap, subst, arith, ◌∙◌}
 use Rattle.std.specs.Prelude.{true, ◌==◌, ℤ, pos, Some}
 use Rattle.std.proofs.lemmas.Bool.{eq-eqb}
 use Rattle.std.proofs.lemmas.List.{append_assoc, append-nil, length-append, length-map, length-reverse, map-append, reverse-append}
 use Rattle.session_model.specs.declared.session.Session.{Session}
-use Rattle.session_model.specs.Frames.{interleaved}
 use Rattle.engine_model.specs.Journal as engine
 use Rattle.engine_model.specs.Journal.{Entry, note_of}
-use Rattle.engine_model.specs.Takes.{Input}
+use Rattle.engine_model.specs.Takes.{Input, input_block}
 use Rattle.engine_model.specs.Truth.{losses, loss_of}
 use Rattle.machine_laws.specs.Stands.{block_of_take, blocks_taken, met_full}
 use Rattle.machine_laws.proofs.LossLemmas.{losses_with, full_with}
@@ -18,7 +17,7 @@ use Rattle.cycle_journal.specs.declared.note.Take.TheVariants.{Off, Taken, Lost}
 use Rattle.cycle_journal.specs.JournalView.{seen_take}
 use Rattle.capture_flush.specs.Blocks.{Block, block_of, place_of, taken_in, taken_from, taken_blocks}
 use Rattle.track_capture.specs.Counted.{HasCaptured}
-use Rattle.track_capture.proofs.PickLemmas.{picked_is}
+use Rattle.track_capture.specs.Picked.{picked}
 use Rattle.process_cycle.specs.Captured.{AreCaptured}
 
 -- ---- the blocks of a journal of one entry more
@@ -75,15 +74,14 @@ module _ (s : Session) (t channels : ℕ) (samples : List ℤ) where
       ∙ ap (λ k. map (λ b. place_of (block_of b)) d.sent ++ record { take = n; index = k } ∷ []) taken.index
   places_with input c (Lost n i head) d f refused = ap (λ x. map (λ b. place_of (block_of b)) x.sent) refused.heads ∙ sym (append-nil (map (λ b. place_of (block_of b)) d.sent))
 
-  blocks_with : (input : Input) (c : ℕ) (take : Take) (d f : Sender TakeBlock) → ((i k : ℕ) → channels ≤ k → input i k ≡ pos 0) →
-      samples ≡ interleaved input channels (c * s.block) (s.block * channels) → HasCaptured s t channels samples d take f →
+  blocks_with : (input : Input) (c : ℕ) (take : Take) (d f : Sender TakeBlock) → picked s t channels samples ≡ input_block s input t c → HasCaptured s t channels samples d take f →
       map block_of f.sent ≡ map block_of d.sent ++ taken_in s input t c (seen_take take)
-  blocks_with input c Off d f silent is same = ap (λ x. map block_of x.sent) same ∙ sym (append-nil (map block_of d.sent))
-  blocks_with input c (Taken n i) d f silent is taken = ap (λ x. map block_of x.sent) taken.sent ∙ map-append block_of d.sent (taken.block ∷ [])
+  blocks_with input c Off d f is same = ap (λ x. map block_of x.sent) same ∙ sym (append-nil (map block_of d.sent))
+  blocks_with input c (Taken n i) d f is taken = ap (λ x. map block_of x.sent) taken.sent ∙ map-append block_of d.sent (taken.block ∷ [])
       ∙ ap (λ k. map block_of d.sent ++ record { take = k; index = taken.block.index; samples = taken.block.samples.items } ∷ []) taken.take
       ∙ ap (λ k. map block_of d.sent ++ record { take = n; index = k; samples = taken.block.samples.items } ∷ []) taken.index
-      ∙ ap (λ l. map block_of d.sent ++ record { take = n; index = i; samples = l } ∷ []) (taken.samples ∙ picked_is s input t channels c samples silent is)
-  blocks_with input c (Lost n i head) d f silent is refused = ap (λ x. map block_of x.sent) refused.heads ∙ sym (append-nil (map block_of d.sent))
+      ∙ ap (λ l. map block_of d.sent ++ record { take = n; index = i; samples = l } ∷ []) (taken.samples ∙ is)
+  blocks_with input c (Lost n i head) d f is refused = ap (λ x. map block_of x.sent) refused.heads ∙ sym (append-nil (map block_of d.sent))
 
   heads_with : (n : ℕ) (take : Take) (d f : Sender TakeBlock) → HasCaptured s t channels samples d take f → f.heads ≡ d.heads ++ map (λ l. l.head) (loss_of n (seen_take take))
   heads_with n Off d f same = ap (λ x. x.heads) same ∙ sym (append-nil d.heads)
@@ -120,9 +118,8 @@ module _ (s : Session) (t channels : ℕ) (samples : List ℤ) where
       }
 
   pub of_input_more : (input : Input) (e : Entry) (entries : List Entry) (take : Take) (d f : Sender TakeBlock) → seen_take take ≡ (note_of t e).take →
-      ((i k : ℕ) → channels ≤ k → input i k ≡ pos 0) → samples ≡ interleaved input channels (length entries * s.block) (s.block * channels) →
-      HasCaptured s t channels samples d take f → map block_of d.sent ≡ taken_blocks s input t (reverse entries) →
+      picked s t channels samples ≡ input_block s input t (length entries) → HasCaptured s t channels samples d take f → map block_of d.sent ≡ taken_blocks s input t (reverse entries) →
       map block_of f.sent ≡ taken_blocks s input t (reverse (e ∷ entries))
-  of_input_more input e entries take d f noted silent is captured was = blocks_with input (length entries) take d f silent is captured
+  of_input_more input e entries take d f noted is captured was = blocks_with input (length entries) take d f is captured
       ∙ ap (λ l. l ++ taken_in s input t (length entries) (seen_take take)) was
       ∙ ap (λ k. taken_blocks s input t (reverse entries) ++ taken_in s input t (length entries) k) noted ∙ sym (taken_with s input t e entries)

@@ -1,9 +1,9 @@
 -- A cycle of a process: what stands of its promises and of its master, and how it plays on.
-use Rattle.std.proofs.Common.{◌≡◌, inl, inr, ℕ, suc, ◌*◌, ◌<◌, ◌≤◌, List, [], ◌∷◌, ◌++◌, length, map, refl, ap, ◌∙◌, sym, subst, slice_index_or, arith}
-use Rattle.std.specs.Prelude.{true, false, ℤ, pos, reverse, slice_get, Some, Option}
-use Rattle.std.proofs.lemmas.List.{length-append, length-map, map-append, reverse-append}
+use Rattle.std.proofs.Common.{◌≡◌, ℕ, suc, ◌*◌, ◌<◌, ◌≤◌, List, [], ◌∷◌, ◌++◌, length, map, refl, ap, ◌∙◌, sym, subst, slice_index_or, arith}
+use Rattle.std.specs.Prelude.{true, false, ℤ, reverse, slice_get, Some, Option}
+use Rattle.std.proofs.lemmas.List.{length-append, length-map}
 use Rattle.std.proofs.lemmas.Option.{slice_get_within, slice_get-get_or}
-use Rattle.sound_model.specs.Wav.{sound, sound_bytes}
+use Rattle.sound_model.specs.Wav.{sound_bytes}
 use Rattle.ses_units.specs.Bits.{bits_of}
 use Rattle.ses_io.specs.FixedList.{Listed}
 use Rattle.ses_io.specs.Outside.{SourceOutside, SinkOutside}
@@ -20,16 +20,12 @@ use Rattle.engine_model.specs.Mixed.{mixed_in}
 use Rattle.engine_laws.proofs.ListLemmas.{item_at}
 use Rattle.machine_model.specs.Events as machine
 use Rattle.edition_log.specs.EditionState as log
-use Rattle.disk_ring.specs.Receiver.{Receiver}
 use Rattle.disk_ring.specs.Sender.{Sender}
 use Rattle.piece_item.specs.declared.ack.Ack.{Ack}
-use Rattle.piece_item.specs.declared.item.Item.{Item}
 use Rattle.piece_item.specs.declared.take_block.TakeBlock.{TakeBlock}
 use Rattle.piece_item.specs.Views as views
 use Rattle.play_window.specs.WindowState.{IsNoEarlier}
 use Rattle.cycle_journal.specs.declared.entry.Entry.{Entry}
-use Rattle.cycle_journal.specs.declared.entry.State.{State}
-use Rattle.cycle_journal.specs.declared.entry.State.TheVariants.{Stopped, Seeking, Rolling}
 use Rattle.cycle_journal.specs.JournalView.{seen_note, seen_entry, seen_state}
 use Rattle.input_blocks.specs.Rest.{StreamForm, rest_sound}
 use Rattle.input_blocks.specs.State.{IsReadTo}
@@ -40,72 +36,20 @@ use Rattle.track_playback.specs.Heard.{IsAt}
 use Rattle.track_playback.specs.SpareBoxes.{received_items, received_kinds}
 use Rattle.track_playback.proofs.TrackLemmas.{played_later}
 use Rattle.master_blocks.specs.State.{IsMasterOf}
-use Rattle.process_cycle.specs.Captured.{AreOfInput}
+use Rattle.process_cycle.specs.Captured.{Hears}
 use Rattle.process_cycle.specs.Cycles.{Acknowledges, MakesEntry, MayCycle, ReadsBlock, block_after, next_bytes, next_state}
 use Rattle.process_cycle.specs.Ends.{block_of}
 use Rattle.process_cycle.specs.Looked.{IsLookedUp}
 use Rattle.process_cycle.specs.Making.{IsMade}
-use Rattle.process_cycle.specs.Playing.{IsPlaying, IsOpenIn, IsRecorded}
+use Rattle.process_cycle.specs.Playing.{IsPlaying, IsRecorded}
 use Rattle.process_cycle.specs.ProcessState.{ProcessState, Playing, entries_of, items_of, kinds_of, position_of, sound_of}
 use Rattle.process_cycle.specs.Promised.{HoldsBlocks, IsMastered, Promises}
 use Rattle.process_cycle.proofs.EntryLemmas.{block_same, entries_few, entries_many, note_there, picked_same, recorded_at, takes_of, unended}
-use Rattle.process_cycle.proofs.MadeLemmas.{EntryFacts, captured_same, depth_after, entry_facts, seen_as}
+use Rattle.process_cycle.proofs.HearsLemmas.{hears_with_entry}
+use Rattle.process_cycle.proofs.MadeLemmas.{EntryFacts, captured_same, depth_after, entry_facts}
 use Rattle.process_cycle.proofs.MasterLemmas.{mastered_with_entry}
-use Rattle.process_cycle.proofs.PromiseLemmas.{MakesOne, TakesOne, at_next, of_input_with_entry, promises_with_entry}
-
--- ---- the next block
-
--- the last of a list is the first of it backwards
-last_first : {X Y : Type 0} (f : X → Y) (xs : List X) (x : X) → reverse (map f (xs ++ x ∷ [])) ≡ f x ∷ reverse (map f xs)
-last_first f xs x = ap reverse (map-append f xs (x ∷ [])) ∙ reverse-append (map f xs) (f x ∷ [])
-
-counts_on : (at : PlayPosition) (state : State) (n k m : ℕ) (notes : List engine.Note) (es : List engine.Entry) → IsAt at state → n ≡ rolled at.generation es → block_after state n ≡ rolled at.generation (seen_as k m (seen_state state) notes ∷ es)
-counts_on at Stopped n k m notes es here now = now
-counts_on at (Seeking t tail) n k m notes es here now = now
-counts_on at (Rolling g s) n k m notes es here now = grind (arith, here.0, now)
-
-none_later : (at : PlayPosition) (state : State) (h k m : ℕ) (notes : List engine.Note) (es : List engine.Entry) → IsAt at state → at.generation < h → rolled h es ≡ 0 → rolled h (seen_as k m (seen_state state) notes ∷ es) ≡ 0
-none_later at Stopped h k m notes es here above none = none
-none_later at (Seeking t tail) h k m notes es here above none = none
-none_later at (Rolling g s) h k m notes es here above none = grind (arith, here.0, above, none)
-
-no_less : (state : State) (n : ℕ) → n ≤ block_after state n
-no_less Stopped n = omega arith
-no_less (Seeking t tail) n = omega arith
-no_less (Rolling g s) n = omega arith
-
--- ---- the ends
-
--- both answers leave an end open
-open_after : (items : ℕ) (ack : Ack) (a b : Sender Ack) → Acknowledges ack a b → IsOpenIn items 0 a → IsOpenIn items 0 b
-open_after items ack a b (inl put) was = record {
-  depth = ap (λ x. x.depth) put.1.sent ∙ was.depth;
-  room = ap (λ x. x.room) put.1.sent ∙ was.room;
-  still_open = ap (λ x. x.closed) put.1.sent ∙ was.still_open;
-}
-open_after items ack a b (inr full) was = record {
-  depth = ap (λ x. x.depth) full.1.heads ∙ was.depth;
-  room = ap (λ x. x.room) full.1.heads ∙ was.room;
-  still_open = ap (λ x. x.closed) full.1.heads ∙ was.still_open;
-}
-
--- ---- the input
-
--- it has no more channels than its form tells
-silent_past : (stream : StreamForm) (start : List ℕ) (i k : ℕ) → stream.form.channels ≤ k → rest_sound stream start i k ≡ pos 0
-unfolding sound
-silent_past stream start i k past = grind (arith, past)
-
--- ---- the same kinds
-
-kinds_by_items : {I W : Type 0} (p : ProcessState I W) → map (map (λ i. i.kind)) (items_of p) ≡ kinds_of p
-kinds_by_items p = by p.ends.plays.items
-  where
-    by : (rs : List (Receiver Item)) → map (map (λ i. i.kind)) (map received_items rs) ≡ map received_kinds rs
-    by [] = refl
-    by (r ∷ rs) = ap (λ l. received_kinds r ∷ l) (by rs)
-
--- ---- after the entry
+use Rattle.process_cycle.proofs.NextLemmas.{counts_on, kinds_by_items, last_first, no_less, none_later, open_after, silent_past}
+use Rattle.process_cycle.proofs.PromiseLemmas.{MakesOne, TakesOne, at_next, promises_with_entry}
 
 module _ {I W : Type 0} (inputs : SourceOutside I) (at : Playing) (e : log.EditionState) (p q : ProcessState I W) (may : MayCycle inputs at e p) (made : Entry) (m : IsMade e p q made) where
   abbrev takes : List engine.Take
@@ -205,12 +149,15 @@ module _ {I W : Type 0} (inputs : SourceOutside I) (at : Playing) (e : log.Editi
       abbrev block_of_input : StreamForm → ℕ → ℕ → List ℤ
       block_of_input stream frames cycles = interleaved (rest_sound stream at.start) stream.form.channels (cycles * frames) (frames * stream.form.channels)
 
-      of_input_after : inputs.tells → AreOfInput (sound_of at after) at.session (entries_of after) q.ends.takes.items
-      of_input_after tells = subst (λ es. AreOfInput (sound_of at after) at.session es q.ends.takes.items) (sym entries_are)
-          (of_input_with_entry (rest_sound q.input.stream at.start) at (entries_of p) channels q.input.samples (seen_entry made) takes p.ends after.ends makes_one (silent_past q.input.stream at.start)
-          (reads.samples tells ∙ ap (λ x. block_of_input x p.input.block (length p.journal.items)) (sym reads.stream) ∙ ap (λ x. block_of_input q.input.stream x (length p.journal.items)) may.playing.frames
-          ∙ ap (block_of_input q.input.stream at.session.block) (sym (entries_many p)))
-          (subst (λ x. AreOfInput (rest_sound x at.start) at.session (entries_of p) p.ends.takes.items) (sym reads.stream) (may.playing.of_input tells)))
+      -- the block is the next of the input's sound, where it tells
+      next_told : inputs.tells → q.input.samples ≡ block_of_input q.input.stream at.session.block (length (entries_of p))
+      next_told tells = reads.samples tells ∙ ap (λ x. block_of_input x p.input.block (length p.journal.items)) (sym reads.stream)
+          ∙ ap (λ x. block_of_input q.input.stream x (length p.journal.items)) may.playing.frames ∙ ap (block_of_input q.input.stream at.session.block) (sym (entries_many p))
+
+      hears_after : Hears inputs.tells (sound_of at after) at.session (entries_of after) q.ends.takes.items
+      hears_after = subst (λ es. Hears inputs.tells (sound_of at after) at.session es q.ends.takes.items) (sym entries_are)
+          (hears_with_entry at (entries_of p) channels q.input.samples (seen_entry made) takes p.ends after.ends makes_one inputs.tells (rest_sound q.input.stream at.start)
+          (silent_past q.input.stream at.start) next_told (subst (λ x. Hears inputs.tells (rest_sound x at.start) at.session (entries_of p) p.ends.takes.items) (sym reads.stream) may.playing.hears))
 
       pub plays_after_a_cycle : IsPlaying inputs at after
       plays_after_a_cycle = record {
@@ -233,7 +180,7 @@ module _ {I W : Type 0} (inputs : SourceOutside I) (at : Playing) (e : log.Editi
         cycles = subst (λ x. x.room ≤ 100000) (sym noted) may.playing.cycles;
         within = omega (arith, long, ap (λ x. x.room) noted, may.room);
         promises = subst (λ es. Promises at es after.ends) (sym entries_are) (promises_with_entry at (entries_of p) channels q.input.samples (seen_entry made) takes p.ends after.ends makes_one may.playing.promises);
-        of_input = of_input_after;
+        hears = hears_after;
       }
 
       pub makes_entry : MakesEntry at.session e p after

@@ -5,6 +5,7 @@ pub mod CapturedLemmas
 pub mod BlockLemmas
 pub mod TruthLemmas
 pub mod PromiseLemmas
+pub mod HearsLemmas
 pub mod MasterLemmas
 mod MeetLemmas
 mod PutLemmas
@@ -16,5 +17,6 @@ mod PlayingLemmas
 mod MeetingLemmas
 mod EntryLemmas
 mod MadeLemmas
+mod NextLemmas
 mod CycleLemmas
 mod NotedLemmas

@@ -4,9 +4,7 @@ use Rattle.std.specs.Prelude.{Bool, false, map, reverse, slice_get, Some}
 use Rattle.std.proofs.lemmas.Option.{slice_get_within, get_or_from_slice_get}
 use Rattle.ses_io.specs.Outside.{SourceOutside, SinkOutside}
 use Rattle.engine_model.specs.Journal.{Entry}
-use Rattle.engine_model.specs.Takes.{Input}
 use Rattle.engine_laws.proofs.ListLemmas.{item_at}
-use Rattle.capture_flush.specs.Blocks as captured
 use Rattle.session_model.specs.declared.session.Session.{Session}
 use Rattle.disk_ring.specs.Sender.{Sender}
 use Rattle.disk_ring.specs.Receiver.{Receiver}
@@ -20,12 +18,12 @@ use Rattle.track_playback.specs.declared.play_position.PlayPosition.{PlayPositio
 use Rattle.track_playback.specs.Played.{IsPlayed, KnowsTheEnds}
 use Rattle.track_playback.specs.SpareBoxes.{received_items, received_kinds}
 use Rattle.process_cycle.specs.declared.ends.ProcessEnds.{ProcessEnds}
-use Rattle.process_cycle.specs.Captured.{AreOfInput}
 use Rattle.process_cycle.specs.Ends.{AllMeet, EndsMeet, block_of, AreOtherEnds}
 use Rattle.process_cycle.specs.Looked.{HasLooked, IsLookedUp}
 use Rattle.process_cycle.specs.Playing.{IsPlaying, IsOpenIn, IsRecorded}
 use Rattle.process_cycle.specs.ProcessState.{ProcessState, Playing, entries_of, position_of, sound_of}
 use Rattle.process_cycle.specs.Promised.{HoldsBlocks}
+use Rattle.process_cycle.proofs.HearsLemmas.{hears_while_meeting}
 use Rattle.process_cycle.proofs.PromiseLemmas.{promises_while_meeting}
 
 -- some other end of the same ring, for lists that are read past their end
@@ -126,9 +124,6 @@ module _ {I W : Type 0} (at : Playing) (p : ProcessState I W) (ends : ProcessEnd
   got : (t : ℕ) (d : Sender TakeBlock) → t < length p.ends.takes.items → HasGot (slice_index_or p.ends.takes.items t d) (slice_index_or ends.takes.items t d)
   got t d within = got_at p.ends.takes.items theirs.takes.items ends.takes.items theirs_now.takes.items met.takes t d within
 
-  still_of_input : (input : Input) → AreOfInput input at.session (entries_of p) p.ends.takes.items → AreOfInput input at.session (entries_of p) ends.takes.items
-  still_of_input input was t d is = let o = was_end HasGot p.ends.takes.items ends.takes.items met.takes.senders got t d is in ap (λ z. map captured.block_of z.sent) o.changed.is ∙ was t o.was o.there
-
   pub plays_after_a_meeting : (inputs : SourceOutside I) → IsPlaying inputs at p → IsPlaying inputs at after
   plays_after_a_meeting inputs playing = record {
     valid = playing.valid;
@@ -152,7 +147,7 @@ module _ {I W : Type 0} (at : Playing) (p : ProcessState I W) (ends : ProcessEnd
     cycles = playing.cycles;
     within = playing.within;
     promises = promises_while_meeting at (entries_of p) p.ends ends theirs theirs_now others met playing.promises;
-    of_input = λ tells. still_of_input (sound_of at p) (playing.of_input tells);
+    hears = hears_while_meeting inputs.tells (sound_of at p) at.session (entries_of p) p.ends ends theirs theirs_now others met playing.hears;
   }
 
   pub looked_after_a_meeting : HasLooked at p → HasLooked at after

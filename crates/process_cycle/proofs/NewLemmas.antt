@@ -19,7 +19,7 @@ use Rattle.piece_item.specs.Views.{item_of}
 use Rattle.cycle_journal.specs.declared.entry.Entry.{Entry}
 use Rattle.capture_flush.specs.Blocks as flush
 use Rattle.wav_codec.specs.declared.info.WavInfo.{WavInfo}
-use Rattle.input_blocks.specs.Rest.{stream_told}
+use Rattle.input_blocks.specs.Rest.{rest_sound, stream_told}
 use Rattle.input_blocks.specs.State.{InputState, IsReadTo, from_here}
 use Rattle.master_blocks.specs.State.{MasterState, IsMasterOf}
 use Rattle.track_capture.specs.declared.capture.TrackCapture.{TrackCapture}
@@ -140,8 +140,12 @@ module _ {I W : Type 0} (inputs : SourceOutside I) (sinks : SinkOutside W) (s : 
       cycles = few;
       within = omega arith;
       promises = promises_first at_first rings new refl;
-      of_input = λ tells t d there. ap (map flush.block_of) (let within = slice_get_within rings.takes.items t d there in
-          ap (λ x. x.sent) (sym (get_or_from_slice_get rings.takes.items t d d there)) ∙ (new.each_take t d (omega (arith, within, new.takes))).sent);
+      hears = record {
+        input = rest_sound blocks.stream (inputs.left input);
+        told_so = λ tells. refl;
+        of_input = λ t d there. ap (map flush.block_of) (let within = slice_get_within rings.takes.items t d there in
+            ap (λ x. x.sent) (sym (get_or_from_slice_get rings.takes.items t d d there)) ∙ (new.each_take t d (omega (arith, within, new.takes))).sent);
+      };
     };
     input_is = begun.input_is;
     stream = begun.stream;

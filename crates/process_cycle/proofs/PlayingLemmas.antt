@@ -164,7 +164,7 @@ module _ {I W : Type 0} (inputs : SourceOutside I) (at : Playing) (p : ProcessSt
       cycles = playing.cycles;
       within = playing.within;
       promises = promises_while_looking at e.edits (entries_of p) p.ends after.ends more go_on refl refl refl playing.promises;
-      of_input = playing.of_input;
+      hears = playing.hears;
     }
 
     pub looked_after_a_look : HaveLookedUp at_now p.ends.plays.items plays.items → HasLooked (entered e.edits at) after

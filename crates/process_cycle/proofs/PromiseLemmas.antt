@@ -1,6 +1,6 @@
 -- What a process promises stands while it looks, while its ends meet the butler's, and with each entry.
-use Rattle.std.proofs.Common.{◌≡◌, ℕ, ◌*◌, ◌<◌, ◌≤◌, List, [], ◌∷◌, ◌++◌, length, map, reverse, refl, sym, ap, subst, arith, ◌∙◌, length-append}
-use Rattle.std.specs.Prelude.{true, false, ℤ, pos, nat_le, slice_get, slice_index_or, Some}
+use Rattle.std.proofs.Common.{◌≡◌, ℕ, ◌<◌, List, [], ◌∷◌, ◌++◌, length, map, reverse, refl, sym, ap, subst, arith, ◌∙◌, length-append}
+use Rattle.std.specs.Prelude.{true, false, ℤ, nat_le, slice_get, slice_index_or, Some}
 use Rattle.std.specs.List.{list_all}
 use Rattle.std.specs.Option.{option_map}
 use Rattle.std.proofs.lemmas.List.{length-map, map-append, reverse-append}
@@ -8,7 +8,6 @@ use Rattle.std.proofs.lemmas.Option.{get_or_from_slice_get, same_Some, slice_get
 use mathlib.Core.List.{IsPrefix}
 use Rattle.session_model.specs.declared.edit.Edit.{Edit}
 use Rattle.session_model.specs.declared.session.Session.{Session}
-use Rattle.session_model.specs.Frames.{interleaved}
 use Rattle.engine_model.specs.Edits.{generation, has_quit}
 use Rattle.engine_model.specs.Editions.{edition}
 use Rattle.engine_model.specs.Journal as engine
@@ -16,7 +15,6 @@ use Rattle.engine_model.specs.Journal.{Entry, is_rolling, rolled, note_of}
 use Rattle.engine_model.specs.Cycle.{entry_of}
 use Rattle.engine_model.specs.Items.{Kind}
 use Rattle.engine_model.specs.Made.{Receives, fit_takes}
-use Rattle.engine_model.specs.Takes.{Input}
 use Rattle.engine_laws.specs.MadeLaws.{LooksStand}
 use Rattle.engine_laws.proofs.JournalInvariantLemmas.{get_new}
 use Rattle.engine_laws.proofs.LooksLemmas.{looks_stand_while_receiving, looks_stand_while_editing, looks_stand_with_its_entry}
@@ -40,13 +38,13 @@ use Rattle.track_playback.specs.SpareBoxes.{received_kinds}
 use Rattle.process_cycle.specs.declared.ends.ProcessEnds.{ProcessEnds}
 use Rattle.process_cycle.specs.Ends.{block_of, IsNewIn, AreNew, AllMeet, AreOtherEnds, EndsMeet}
 use Rattle.process_cycle.specs.Told.{IsToldOf}
-use Rattle.process_cycle.specs.Captured.{AreCaptured, AreOfInput}
+use Rattle.process_cycle.specs.Captured.{AreCaptured}
 use Rattle.process_cycle.specs.ProcessState.{Playing, entered}
 use Rattle.process_cycle.specs.Promised.{Promises}
 use Rattle.process_cycle.specs.Looked.{IsLookedUp}
 use Rattle.process_cycle.specs.Cycles.{Acknowledges}
 use Rattle.process_cycle.proofs.ToldLemmas.{told_stays, told_more}
-use Rattle.process_cycle.proofs.CapturedLemmas.{captured_more, of_input_more}
+use Rattle.process_cycle.proofs.CapturedLemmas.{captured_more}
 
 -- of each track more was received and looked for
 pub record GoOn (olds news : List (Receiver Item)) : Type 0 where
@@ -190,9 +188,9 @@ record HeardMore (a b : Receiver Item) : Type 0 where
   tails : b.tails ≡ a.tails
 
 -- an end that puts was told more, and else is the same
-record ToldMore {T : Type 0} (a b : Sender T) : Type 0 where
-  sent : b.sent ≡ a.sent
-  heads : b.heads ≡ a.heads
+pub record ToldMore {T : Type 0} (a b : Sender T) : Type 0 where
+  pub sent : b.sent ≡ a.sent
+  pub heads : b.heads ≡ a.heads
 
 met_out : (senders senders_now : List (Sender Item)) (plays plays_now : List (Receiver Item)) → AllMeet senders plays senders_now plays_now → length plays ≡ length senders →
     (t : ℕ) (a b : Receiver Item) → slice_get plays t ≡ Some a → slice_get plays_now t ≡ Some b → HeardMore a b
@@ -204,7 +202,7 @@ met_out senders senders_now plays plays_now met many t a b was now = let lt = sl
       tails = ap (λ r. r.tails) (sym read_now ∙ one.receiver) ∙ ap (λ r. r.tails) read;
     }
 
-met_in : {T : Type 0} (takes takes_now : List (Sender T)) (receivers receivers_now : List (Receiver T)) → AllMeet takes receivers takes_now receivers_now → length receivers ≡ length takes →
+pub met_in : {T : Type 0} (takes takes_now : List (Sender T)) (receivers receivers_now : List (Receiver T)) → AllMeet takes receivers takes_now receivers_now → length receivers ≡ length takes →
     (t : ℕ) (a b : Sender T) → slice_get takes t ≡ Some a → slice_get takes_now t ≡ Some b → ToldMore a b
 met_in takes takes_now receivers receivers_now met many t a b was now = let lt = slice_get_within takes t a was in let y = item_at receivers t (omega (arith, lt, many)) in
     let one = met.each t a y.0 lt in
@@ -282,12 +280,3 @@ promises_with_entry at entries channels input e takes old new made was =
       to_butler = tells at e entries old.to_butler new.to_butler made.few made.to_butler was.to_butler;
       to_control = tells at e entries old.to_control new.to_control made.few made.to_control was.to_control;
     }
-
--- and its blocks are those of the input
-pub of_input_with_entry : (sound : Input) (at : Playing) (entries : List Entry) (channels : ℕ) (input : List ℤ) (e : Entry) (takes : List engine.Take) (old new : ProcessEnds) →
-    MakesOne at entries channels input e takes old new → ((i k : ℕ) → channels ≤ k → sound i k ≡ pos 0) →
-    input ≡ interleaved sound channels (length entries * at.session.block) (at.session.block * channels) →
-    AreOfInput sound at.session entries old.takes.items → AreOfInput sound at.session (e ∷ entries) new.takes.items
-of_input_with_entry sound at entries channels input e takes old new made silent block was t f there =
-    let d = get_new old.takes.items new.takes.items t f made.rings there in let one = made.taken t d.0 f d.1 there in
-    of_input_more at.session t channels input sound e entries one.take d.0 f one.noted silent block one.captured (was t d.0 d.1)

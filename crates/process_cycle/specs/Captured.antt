@@ -21,3 +21,9 @@ pub record AreCaptured (s : Session) (t : ℕ) (entries : List Entry) (d : Sende
 abbrev pub AreOfInput : Input → Session → List Entry → List (Sender TakeBlock) → Type 0
 AreOfInput input s entries takes = (t : ℕ) (d : Sender TakeBlock) → slice_get takes t ≡ Some d →
     map block_of d.sent ≡ taken_blocks s input t (reverse entries)
+
+-- What was heard of the input: some sound of which the captured blocks are, and the input's own where it tells.
+pub record Hears (told : Type 0) (sound : Input) (s : Session) (entries : List Entry) (takes : List (Sender TakeBlock)) : Type 0 where
+  pub input : Input
+  pub told_so : told → input ≡ sound
+  pub of_input : AreOfInput input s entries takes

@@ -19,7 +19,7 @@ use Rattle.track_playback.specs.declared.playback.TrackPlayback.{TrackPlayback}
 use Rattle.track_playback.specs.Played.{IsPlayed}
 use Rattle.process_cycle.specs.declared.ends.ProcessEnds.{ProcessEnds}
 use Rattle.process_cycle.specs.Ends.{block_of}
-use Rattle.process_cycle.specs.Captured.{AreOfInput}
+use Rattle.process_cycle.specs.Captured.{Hears}
 use Rattle.process_cycle.specs.ProcessState.{ProcessState, Playing, entries_of, position_of, sound_of}
 use Rattle.process_cycle.specs.Promised.{Promises}
 
@@ -70,7 +70,8 @@ pub record IsPlaying {I W : Type 0} (inputs : SourceOutside I) (at : Playing) (p
   pub within : length p.journal.items ≤ p.journal.room
   -- what it promises
   pub promises : Promises at (entries_of p) p.ends
-  pub of_input : inputs.tells → AreOfInput (sound_of at p) at.session (entries_of p) p.ends.takes.items
+  -- and what was captured is of one sound, which is the input's where it tells
+  pub hears : Hears inputs.tells (sound_of at p) at.session (entries_of p) p.ends.takes.items
 
 -- A process has begun to play a session, with room for so many cycles.
 pub record HasBegun {I W : Type 0} (inputs : SourceOutside I) (sinks : SinkOutside W) (s : Session) (cycles : ℕ) (input : I) (form : Option WavInfo) (sink : W) (rings : ProcessEnds) (p : ProcessState I W) : Type 0 where

@@ -31,7 +31,7 @@ pub rem_below : (k channels : ℕ) → 0 < channels → k % channels < channels
 rem_below k channels some = omega arith
 
 -- so many frames are the same where they agree in each channel
-same_frames : (f h : ℕ → ℕ → ℤ) (channels a b m : ℕ) → ((i c : ℕ) → i < m → c < channels → f (a + i) c ≡ h (b + i) c) →
+pub same_frames : (f h : ℕ → ℕ → ℤ) (channels a b m : ℕ) → ((i c : ℕ) → i < m → c < channels → f (a + i) c ≡ h (b + i) c) →
     interleaved f channels a (m * channels) ≡ interleaved h channels b (m * channels)
 same_frames f h channels a b m agree = fill_by_all (λ k. h (b + k / channels) (k % channels)) (interleaved f channels a (m * channels)) (m * channels) (pos 0)
     (interleaved_long f channels a (m * channels))
@@ -55,7 +55,7 @@ pub is_there : (block channels w f k n : ℕ) → n ≡ block * channels → 0 <
 is_there block channels w f k n long some lt near = omega (arith, mul-add-lt (k / w) channels (f + k % w) block (div_below k w block some lt) near, swapped channels block, long)
 
 -- a sample of the block that the input has from frame a on
-input_sample : (input : Input) (channels a n : ℕ) (samples : List ℤ) → ((i k : ℕ) → channels ≤ k → input i k ≡ pos 0) →
+pub input_sample : (input : Input) (channels a n : ℕ) (samples : List ℤ) → ((i k : ℕ) → channels ≤ k → input i k ≡ pos 0) →
     samples ≡ interleaved input channels a (n * channels) → (i c : ℕ) → i < n → sample_of channels samples i c ≡ input (a + i) c
 input_sample input channels a n samples silent same i c lt = elim (cases_lt c channels) [
   | inl near ↦ sample_within channels samples i c near ∙ ap (λ l. get_or l (i * channels + c) (pos 0)) same
