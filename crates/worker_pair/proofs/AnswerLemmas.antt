@@ -7,6 +7,7 @@ use Rattle.master_blocks.specs.State.{IsMasterOf}
 use Rattle.butler.specs.ButlerState.{ButlerState as Butler}
 use Rattle.process_cycle.specs.declared.ends.ProcessEnds.{ProcessEnds}
 use Rattle.process_cycle.specs.declared.fault.CycleFault.{CycleFault}
+use Rattle.process_cycle.specs.declared.fault.CycleFault.TheVariants.{InputFault, MasterFault}
 use Rattle.process_cycle.specs.Cycles.{CycleReads, CycleWrites, HasStopped, MakesEntry, next_bytes}
 use Rattle.process_cycle.specs.Ends.{AreOtherEnds, EndsMeet}
 use Rattle.process_cycle.specs.Playing.{IsPlaying}
@@ -15,12 +16,12 @@ use Rattle.process_cycle.specs.ProcessState.{ProcessState}
 use Rattle.worker_pair.specs.declared.pair.Pair.{Pair}
 use Rattle.worker_pair.specs.Begun.{At, playing_at}
 use Rattle.worker_pair.specs.Plays.{Cycles, MayCycle}
-use Rattle.worker_pair.specs.Runs.{Rests, Runs}
+use Rattle.worker_pair.specs.Runs.{HearsInput, Rests, Runs}
 use Rattle.worker_pair.specs.Steps.{EndsAsMachine}
 use Rattle.worker_pair.proofs.NowLemmas.{runs_rest}
 use Rattle.worker_pair.proofs.CoreEndLemmas.{ends_as_machine}
 use Rattle.worker_pair.proofs.EndLemmas.{others_cycled, runs_cycled}
-use Rattle.worker_pair.proofs.FaultLemmas.{now, rests_stopped}
+use Rattle.worker_pair.proofs.FaultLemmas.{hears_stopped, now, rests_stopped}
 
 module _ {V I W : Type 0} (media : MediaOutside V) (inputs : SourceOutside I) (sinks : SinkOutside W) (at : At) (old : Pair V I W) (may : MayCycle media inputs sinks at old) (q : ProcessState I W) where
   -- the ends are those of the same rings
@@ -48,6 +49,13 @@ module _ {V I W : Type 0} (media : MediaOutside V) (inputs : SourceOutside I) (s
     pub rests_either : (answer : Result (Unit {0}) CycleFault) → OnOk answer (Runs media inputs sinks at met) → OnErr answer (HasStopped old.process q) → IsMasterOf at.begun.session q.master → Rests media at met
     rests_either (Ok x) runs stopped master = runs_rest media inputs sinks at met runs
     rests_either (Err why) runs stopped master = rests_stopped media inputs sinks at old may.runs q ours theirs stopped meet master
+
+    -- and what was captured is of one sound
+    pub hears_either : (answer : Result (Unit {0}) CycleFault) → OnOk answer (IsPlaying inputs (playing_at at) (record q { ends = ours })) → OnErr answer (HasStopped old.process q) →
+        CycleReads inputs (playing_at at) old.process answer q → HearsInput inputs at met
+    hears_either (Ok x) playing stopped reads = playing.hears
+    hears_either (Err InputFault) playing stopped reads = hears_stopped media inputs sinks at old may.runs q ours theirs stopped meet reads.stream
+    hears_either (Err MasterFault) playing stopped reads = hears_stopped media inputs sinks at old may.runs q ours theirs stopped meet reads.stream
 
     -- it was the process's cycle, and the meeting
     pub cycles_either : (answer : Result (Unit {0}) CycleFault) → OnOk answer (MakesEntry at.begun.session old.playing old.process q) → CycleReads inputs (playing_at at) old.process answer q →

@@ -2,18 +2,21 @@
 use Rattle.std.proofs.Common.{◌≡◌, refl, sym, ap, subst, ◌∙◌}
 use Rattle.std.specs.Prelude.{false}
 use Rattle.ses_io.specs.Outside.{MediaOutside, SourceOutside, SinkOutside}
+use Rattle.input_blocks.specs.Rest.{rest_sound}
 use Rattle.piece_item.specs.declared.butler_ends.ButlerEnds.{ButlerEnds}
 use Rattle.master_blocks.specs.State.{IsMasterOf}
 use Rattle.process_cycle.specs.declared.ends.ProcessEnds.{ProcessEnds}
 use Rattle.process_cycle.specs.Cycles.{HasStopped}
 use Rattle.process_cycle.specs.Ends.{AreOtherEnds, EndsMeet}
-use Rattle.process_cycle.specs.ProcessState.{ProcessState, entries_of}
+use Rattle.process_cycle.specs.Captured.{Hears}
+use Rattle.process_cycle.specs.ProcessState.{ProcessState, entries_of, sound_of}
 use Rattle.process_cycle.specs.Promised.{Promises}
+use Rattle.process_cycle.proofs.HearsLemmas.{hears_while_meeting}
 use Rattle.process_cycle.proofs.PromiseLemmas.{promises_while_meeting}
 use Rattle.worker_pair.specs.declared.pair.Pair.{Pair}
 use Rattle.worker_pair.specs.Begun.{At, playing_at}
 use Rattle.worker_pair.specs.Never.{NothingIsTaken}
-use Rattle.worker_pair.specs.Runs.{Rests, Runs}
+use Rattle.worker_pair.specs.Runs.{HearsInput, Rests, Runs}
 use Rattle.worker_pair.specs.Tied.{rings_of}
 use Rattle.worker_pair.proofs.MetLemmas.{serves_met}
 use Rattle.worker_pair.proofs.NowLemmas.{control_on}
@@ -54,3 +57,9 @@ module _ {V I W : Type 0} (media : MediaOutside V) (inputs : SourceOutside I) (s
       master = master;
       asked = ap (λ (z : ProcessState I W). z.journal.room) stopped ∙ runs.asked;
     }
+
+    -- and what was captured is of one sound still
+    pub hears_stopped : q.input.stream ≡ old.process.input.stream → HearsInput inputs at now
+    hears_stopped stream = hears_while_meeting inputs.tells (sound_of (playing_at at) q) at.begun.session (entries_of q) q.ends ours old.butler.ends theirs others_stopped meet
+        (subst (λ (z : ProcessState I W). Hears inputs.tells (sound_of (playing_at at) z) at.begun.session (entries_of z) z.ends.takes.items) (sym stopped)
+        (subst (λ x. Hears inputs.tells (rest_sound x at.begun.start) at.begun.session (entries_of old.process) old.process.ends.takes.items) (sym stream) runs.playing.hears))

@@ -14,12 +14,13 @@ use Rattle.butler.specs.ButlerState.{ButlerState}
 use Rattle.process_cycle.specs.declared.ends.ProcessEnds.{ProcessEnds}
 use Rattle.process_cycle.specs.Ends.{EndsMeet}
 use Rattle.process_cycle.specs.Playing.{IsPlaying}
+use Rattle.process_cycle.proofs.HearsLemmas.{hears_while_meeting}
 use Rattle.process_cycle.proofs.PromiseLemmas.{promises_while_meeting}
-use Rattle.process_cycle.specs.ProcessState.{ProcessState, entries_of}
+use Rattle.process_cycle.specs.ProcessState.{ProcessState, entries_of, sound_of}
 use Rattle.process_cycle.specs.Promised.{IsMastered}
 use Rattle.worker_pair.specs.declared.pair.Pair.{Pair}
 use Rattle.worker_pair.specs.Begun.{At, turned, playing_at}
-use Rattle.worker_pair.specs.Runs.{Rests, Runs}
+use Rattle.worker_pair.specs.Runs.{HearsInput, Rests, Runs}
 use Rattle.worker_pair.specs.Steps.{IsTurned, PairTurnsAsMachine}
 use Rattle.worker_pair.specs.Tied.{IsControlRing, IsTied, rings_of}
 use Rattle.worker_pair.proofs.TurnLemmas.{serves_turned, others_turned}
@@ -100,6 +101,11 @@ module _ {V I W : Type 0} (media : MediaOutside V) (inputs : SourceOutside I) (s
     -- it stands after the turn
     pub rests_turned : Rests media (turned p.edition.edits at) (turned_pair c q)
     rests_turned = by_both (Rests media (turned p.edition.edits at)) c q butler process (rests_now answer turn)
+
+    -- what was captured is of one sound still
+    pub hears_turned : HearsInput inputs at p → HearsInput inputs at (turned_pair c q)
+    hears_turned was = by_both (HearsInput inputs at) c q butler process (hears_while_meeting inputs.tells (sound_of (playing_at at) p.process) at.begun.session (entries_of p.process)
+        p.process.ends ours b.ends theirs (others_turned media at (rings_of p) answer b rests.serves turn) meet was)
 
     -- and the workers run on
     pub runs_turned : (IsPlaying inputs (playing_at at) p.process → IsPlaying inputs (playing_at at) q) → (IsMastered sinks (playing_at at) p.process → IsMastered sinks (playing_at at) q) →

@@ -8,7 +8,8 @@ use Rattle.edition_log.specs.EditionState.{IsEditionOf}
 use Rattle.butler.specs.Serving.{IsServing, IsTrueTo}
 use Rattle.master_blocks.specs.State.{IsMasterOf}
 use Rattle.process_cycle.specs.Ends.{AreOtherEnds}
-use Rattle.process_cycle.specs.ProcessState.{entries_of}
+use Rattle.process_cycle.specs.Captured.{Hears}
+use Rattle.process_cycle.specs.ProcessState.{entries_of, sound_of}
 use Rattle.process_cycle.specs.Promised.{Promises, IsMastered}
 use Rattle.process_cycle.specs.Playing.{IsPlaying}
 use Rattle.worker_pair.specs.declared.ending.Ending.{Ending}
@@ -57,7 +58,7 @@ module _ {V I W : Type 0} where
   pub record HasControl (p : Pair V I W) : Type 0 where
     pub ring : p.acks.ring ≡ p.process.ends.to_control.ring
     pub none_taken : p.acks.received ≡ []
-    -- no ring was found full by a head that the process doesn't know of
+    -- each head by which its `put` answered Full is at most what the process knows to be received of it
     pub heads : All (λ h. h ≤ p.process.ends.to_control.got) p.process.ends.to_control.heads
 
   -- **What stands even after a fault of a cycle**: the butler serves, and the process keeps its promises.
@@ -78,6 +79,10 @@ module _ {V I W : Type 0} where
     pub playing : IsPlaying inputs (playing_at at) p.process
     pub mastered : at.header ≡ true → IsMastered sinks (playing_at at) p.process
     pub asked : p.process.journal.room ≡ p.butler.cycles
+
+  -- **What was captured is of one sound**, and that is the input's where it tells. It stands whatever fails.
+  abbrev pub HearsInput : SourceOutside I → At → Pair V I W → Type 0
+  HearsInput inputs at p = Hears inputs.tells (sound_of (playing_at at) p.process) at.begun.session (entries_of p.process) p.process.ends.takes.items
 
   -- the lists as the pair's own numbers say them
   abbrev pub at_now : Begun → Bool → Pair V I W → At

@@ -45,7 +45,7 @@ pub record IsTurned {V : Type 0} (media : MediaOutside V) (at : At) (e : Ending 
   pub fails : Fails media e.butler answer b
   pub rest : KeepsRest media at.begun.session e.edition e.butler b
 
--- how much a butler may still do while no cycle is made: items that its rings can take, blocks that wait, and one read fault
+-- how much a butler may still do while no cycle is made: 2^62 items a track less all that was sent, the blocks that wait, and one for a read fault that may come
 abbrev pub left_to_do : {V : Type 0} → Ending V → ℕ
 left_to_do e = (length e.butler.ends.sends.items * 2 ^ 62 - total_sent e.butler.ends.sends.items)
     + ((sum_by (λ d. length d.sent) e.ends.takes.items - total_received e.butler.ends.takes.items) + (if e.butler.read_failed then 0 else 1))

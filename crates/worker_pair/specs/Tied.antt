@@ -49,7 +49,7 @@ module _ {V : Type 0} where
 abbrev pub rings_of : {V I W : Type 0} → Pair V I W → Ending V
 rings_of p = record { edition = p.edition; butler = p.butler; ends = p.process.ends }
 
--- no acknowledgement was taken from this ring, as far as its sender can tell
+-- As far as its sender can tell no acknowledgement was taken from this ring: each head by which its `put` answered Full was 0, and no more was sent than there are boxes.
 pub record IsUntaken (d : Sender Ack) : Type 0 where
   pub heads : All (λ h. h ≡ 0) d.heads
   pub room : length d.sent ≤ d.depth

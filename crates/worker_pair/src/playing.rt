@@ -10,7 +10,7 @@ ghost use Rattle.process_cycle.specs.Playing.{IsPlaying};
 ghost use Rattle.process_cycle.specs.ProcessState.{Playing};
 ghost use Rattle.process_cycle.specs.Promised.{IsMastered};
 ghost use Rattle.worker_pair.specs.Begun.{At, headed, looked, playing_at};
-ghost use Rattle.worker_pair.specs.Runs.{Rests, Runs};
+ghost use Rattle.worker_pair.specs.Runs.{HearsInput, Rests, Runs};
 ghost use Rattle.worker_pair.specs.Steps.{EndsAsMachine, LooksAsMachine};
 ghost use Rattle.worker_pair.specs.Plays.{Cycles, Looks, MayCycle, MeetsAfter, OnlyTheMaster};
 
@@ -95,6 +95,7 @@ impl<M: Media, I: Source, W: Sink> Pair<M, I, W> {
         requires { MayCycle M.outside I.outside W.outside at self }
         ensures runs { OnOk result.1 (Runs M.outside I.outside W.outside at result.0) }
         ensures rests { Rests M.outside at result.0 }
+        ensures hears { HearsInput I.outside at result.0 }
         ensures cycles { Cycles I.outside W.outside at self result.1 result.0 }
         ensures as_machine { EndsAsMachine at.begun.session self result.1 result.0 }
     {

@@ -7,7 +7,7 @@ ghost use Rattle.process_cycle.specs.Promised.{IsMastered};
 ghost use Rattle.worker_pair.specs.Begun.{At, playing_at, turned};
 ghost use Rattle.worker_pair.specs.Never.{starts_recording};
 ghost use Rattle.worker_pair.specs.Tied.{rings_of};
-ghost use Rattle.worker_pair.specs.Runs.{Rests, Runs};
+ghost use Rattle.worker_pair.specs.Runs.{HearsInput, Rests, Runs};
 ghost use Rattle.worker_pair.specs.Steps.{PairTurnsAsMachine, PublishesAsMachine, Turns, TurnsOnly};
 
 use crate::pair::Pair;
@@ -43,6 +43,7 @@ impl<M: Media, I: Source, W: Sink> Pair<M, I, W> {
             → Runs M.outside I.outside W.outside (turned self.edition.edits at) result.0 }
         ensures mastered { IsMastered W.outside (playing_at at) self.process
             → IsMastered W.outside (playing_at at) result.0.process }
+        ensures hears { HearsInput I.outside at self → HearsInput I.outside at result.0 }
         ensures same { TurnsOnly self result.0 }
         ensures turns { Turns M.outside at (rings_of self) result.1 (rings_of result.0) }
         ensures as_machine { PairTurnsAsMachine at.begun.session self result.1 result.0 }

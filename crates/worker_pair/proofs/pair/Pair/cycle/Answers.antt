@@ -9,7 +9,7 @@ use Rattle.process_cycle.specs.Playing.{IsPlaying}
 use Rattle.process_cycle.specs.Promised.{IsMastered}
 use Rattle.worker_pair.specs.Begun.{playing_at}
 use Rattle.worker_pair.specs.Plays.{Cycles}
-use Rattle.worker_pair.specs.Runs.{Rests, Runs}
+use Rattle.worker_pair.specs.Runs.{HearsInput, Rests, Runs}
 use Rattle.worker_pair.specs.Steps.{EndsAsMachine}
 use Rattle.worker_pair.proofs.AnswerLemmas as answers
 use Rattle.worker_pair.proofs.MetLemmas.{are_told}
@@ -50,6 +50,14 @@ returns-clause-rests g c = let M = g.M.Media.outside in let I = g.I.Source.outsi
     subst (Rests M g.at) (sym whole) (answers.rests_either M I W g.at self may q ours theirs ends answer (answers.runs_either M I W g.at self may q ours theirs ends answer cycle.made
     (on_ok_weaker answer (λ playing. subst (IsPlaying I (playing_at g.at)) c.meet.ensures.same (c.meet.ensures.playing playing)) cycle.playing)
     (on_ok_weaker answer (λ mastered head. subst (IsMastered W (playing_at g.at)) c.meet.ensures.same (c.meet.ensures.master (mastered (may.runs.mastered head)))) cycle.master)) cycle.fault cycle.of)
+
+pub returns-clause-hears : goal.returns-clause-hears
+returns-clause-hears g c = let M = g.M.Media.outside in let I = g.I.Source.outside in let W = g.W.Sink.outside in let self = c.args.self in let may = c.requires.1.1.1 in
+    let q = c.cycle-answer.new.self in let cycle = c.cycle-answer.ensures in let answer = c.cycle-answer.result in let ours = c.meet.new.self.ends in let theirs = c.meet.new.other in
+    let ends : EndsMeet q.ends self.butler.ends ours theirs = subst (λ e. EndsMeet q.ends e ours theirs) c.rest-resting.ensures.ends c.meet.ensures.ends in
+    let whole = answers.whole M I W g.at self may q ours theirs ends c.resume.result c.meet.new.self (c.resume.ensures ∙ ap (λ r. resumed r theirs) c.rest-resting.ensures.rested) c.meet.ensures.same in
+    subst (HearsInput I g.at) (sym whole) (answers.hears_either M I W g.at self may q ours theirs ends answer
+    (on_ok_weaker answer (λ playing. subst (IsPlaying I (playing_at g.at)) c.meet.ensures.same (c.meet.ensures.playing playing)) cycle.playing) cycle.fault cycle.reads)
 
 pub returns-clause-cycles : goal.returns-clause-cycles
 returns-clause-cycles g c = let M = g.M.Media.outside in let I = g.I.Source.outside in let W = g.W.Sink.outside in let self = c.args.self in let may = c.requires.1.1.1 in

@@ -6,7 +6,7 @@ use Rattle.worker_pair.specs.Tied.{rings_of}
 use Rattle.worker_pair.proofs.MetLemmas.{resumes}
 use Rattle.worker_pair.proofs.TurnLemmas as turns
 use Rattle.worker_pair.proofs.LessLemmas.{turns_turned}
-use Rattle.worker_pair.proofs.PairTurnLemmas.{rests_turned, runs_turned, as_machine_turned}
+use Rattle.worker_pair.proofs.PairTurnLemmas.{rests_turned, runs_turned, hears_turned, as_machine_turned}
 use Rattle.worker_pair.proofs.pair.Pair.turn.Goals as goal
 
 -- src/turning.rt
@@ -41,6 +41,15 @@ returns-clause-runs g c = let self = c.args.self in let e = rings_of self in let
     let butler = resumes b theirs c.rest-resting.result.0 c.resume-butler.result c.resume-butler.ensures c.rest-resting.ensures.rested in
     let I = g.I.Source.outside in let W = g.W.Sink.outside in
     runs_turned M I W g.at self runs b ours theirs meet c.resume-butler.result c.meet.new.self butler c.meet.ensures.same c.turn-answer.result turn c.meet.ensures.playing c.meet.ensures.master
+
+pub returns-clause-hears : goal.returns-clause-hears
+returns-clause-hears g c = let self = c.args.self in let e = rings_of self in let b = c.turn-answer.new.self in let a = c.turn-answer.ensures in let M = g.M.Media.outside in let ours = c.meet.new.self.ends in
+    let theirs = c.meet.new.other in let runs = c.requires.1.1.1 in
+    let turn = turns.is_turned M g.at e c.turn-answer.result b a.serving a.receives a.takes a.sends a.stays_true a.answer a.fails a.rest in
+    let meet = subst (λ (z : ButlerEnds). EndsMeet self.process.ends z ours theirs) c.rest-resting.ensures.ends c.meet.ensures.ends in
+    let butler = resumes b theirs c.rest-resting.result.0 c.resume-butler.result c.resume-butler.ensures c.rest-resting.ensures.rested in
+    let I = g.I.Source.outside in let W = g.W.Sink.outside in
+    hears_turned M I W g.at self runs b ours theirs meet c.resume-butler.result c.meet.new.self butler c.meet.ensures.same c.turn-answer.result turn
 
 pub returns-clause-turns : goal.returns-clause-turns
 returns-clause-turns g c = let self = c.args.self in let e = rings_of self in let b = c.turn-answer.new.self in let a = c.turn-answer.ensures in let M = g.M.Media.outside in let ours = c.meet.new.self.ends in
