@@ -1,5 +1,5 @@
 -- The process of a run makes a cycle: what is so of the run then, whatever was answered, and it is the letter P.
-use Rattle.std.proofs.Common.{◌≡◌, inr, [], ◌∷◌, ◌++◌, length, take, refl, sym, ap, subst, ◌∙◌}
+use Rattle.std.proofs.Common.{◌≡◌, inr, suc, [], ◌∷◌, ◌++◌, length, take, refl, sym, ap, subst, ◌∙◌}
 use Rattle.std.specs.Prelude.{true, false, ◌||◌, not, if◌then◌else◌, map, filter, Result, Ok, Err, OnOk}
 use Rattle.std.proofs.Math.Seq.{take-append_seam}
 use Rattle.std.proofs.lemmas.Bool.{false≢true, or_right}
@@ -22,7 +22,7 @@ use Rattle.process_cycle.specs.ProcessState.{ProcessState, entries_of, items_of}
 use Rattle.worker_pair.specs.declared.pair.Pair.{Pair}
 use Rattle.worker_pair.specs.Begun.{playing_at}
 use Rattle.worker_pair.specs.Plays.{Cycles, MayCycle}
-use Rattle.worker_pair.specs.Runs.{Rests, Runs}
+use Rattle.worker_pair.specs.Runs.{HearsInput, Rests, Runs}
 use Rattle.worker_pair.specs.Steps.{EndsAsMachine}
 use Rattle.worker_pair.specs.Tied.{IsTied}
 use Rattle.worker_pair.proofs.NowLemmas.{now_rests, now_runs}
@@ -31,7 +31,7 @@ use Rattle.engine_steps.specs.declared.run.Run.{Run}
 use Rattle.engine_steps.specs.Failed.{IsCounted, after_cycle, has_stopped}
 use Rattle.engine_steps.specs.Mastered.{IsCutInCycle}
 use Rattle.engine_steps.specs.Started.{Started, now_of, AreCounted}
-use Rattle.engine_steps.specs.UnderWay.{InputIsShort, IsUnderWay}
+use Rattle.engine_steps.specs.UnderWay.{InputIsShort, IsInputOf, IsUnderWay}
 use Rattle.engine_steps.specs.Letters.{CycleIsP, GatheringIsG, GathersOn}
 use Rattle.engine_steps.proofs.GatherLemmas.{cycles_gathered, going, input_is_fine, master_is_fine, old_runs}
 use Rattle.engine_steps.proofs.KeepLemmas.{counted_more, items_met}
@@ -95,6 +95,10 @@ module _ {V I W : Type 0} (media : MediaOutside V) (inputs : SourceOutside I) (s
     shut : new.in_cycle ≡ false
     shut = ap (λ (p : Pair V I W). p.in_cycle) cycles.same
 
+    -- its stream and its blocks are those of the run
+    input_of : cycles.process.input.stream ≡ old.pair.process.input.stream → cycles.process.input.block ≡ old.pair.process.input.block → IsInputOf on new.process.input
+    input_of stream block = subst (IsInputOf on) (sym input_met) (record { stream = stream ∙ is.input.stream; block = block ∙ is.input.block })
+
     -- ---- after a fault
 
     module _ (stopped : HasStopped old.pair.process cycles.process) where
@@ -121,31 +125,33 @@ module _ {V I W : Type 0} (media : MediaOutside V) (inputs : SourceOutside I) (s
           (was tells))))
 
       -- where a write of it failed, it was cut in this cycle
-      cut_in_cycle : (sinks.tells → AppendsSome (sinks.held old.pair.process.master.sink) (sinks.held cycles.process.master.sink) (next_bytes on.begun.session old.pair.playing old.pair.process)) →
-          IsCutInCycle inputs sinks on.begun new.process
-      cut_in_cycle front = record {
-        at = playing_at (now_of on old);
-        before = old.pair.process;
-        edition = old.pair.playing;
-        session_is = refl;
-        first = refl;
-        playing = runs.playing;
-        looked = looked;
-        edition_of = runs.entered.edition_of;
-        given = sym may_cycle.given;
-        unended = runs.entered.unended in_cycle;
-        room = runs.entered.room in_cycle;
-        mastered = runs.mastered refl;
-        journal = journal_same;
-        items = items_same;
-        front = λ tells. subst (λ (m : MasterState W). AppendsSome (sinks.held old.pair.process.master.sink) (sinks.held m.sink) (next_bytes on.begun.session old.pair.playing old.pair.process))
-            (sym master_met) (front tells);
-      }
+      cut_in_cycle : IsReadTo inputs (record { start = on.begun.start; blocks = suc (length old.pair.process.journal.items) }) cycles.process.input →
+          (sinks.tells → AppendsSome (sinks.held old.pair.process.master.sink) (sinks.held cycles.process.master.sink) (next_bytes on.begun.session old.pair.playing old.pair.process)) →
+          (failed : Failed) → IsCutInCycle inputs sinks (playing_at (now_of on (cycled failed))) new.process
+      cut_in_cycle read front failed = subst (λ l. IsCutInCycle inputs sinks (record { session = on.begun.session; edits = l; start = on.begun.start; before = on.begun.before }) new.process)
+          (sym played_same) (record {
+            before = old.pair.process;
+            edition = old.pair.playing;
+            playing = runs.playing;
+            looked = looked;
+            edition_of = runs.entered.edition_of;
+            given = sym may_cycle.given;
+            unended = runs.entered.unended in_cycle;
+            room = runs.entered.room in_cycle;
+            mastered = runs.mastered refl;
+            journal = journal_same;
+            items = items_same;
+            read = subst (λ j. IsReadTo inputs (record { start = on.begun.start; blocks = suc (length j.items) }) new.process.input) (sym journal_same)
+                (subst (IsReadTo inputs (record { start = on.begun.start; blocks = suc (length old.pair.process.journal.items) })) (sym input_met) read);
+            front = λ tells. subst (λ (m : MasterState W). AppendsSome (sinks.held old.pair.process.master.sink) (sinks.held m.sink) (next_bytes on.begun.session old.pair.playing old.pair.process))
+                (sym master_met) (front tells);
+          })
 
       -- where a read failed, the input is short
       short : (failed : Failed) → IsCutShort inputs old.pair.process.input cycles.process.input → InputIsShort inputs on (cycled failed)
       short failed lost = record {
         before = old.pair.process.input;
+        of = is.input;
         read = subst (λ j. IsReadTo inputs (record { start = on.begun.start; blocks = length j.items }) old.pair.process.input) (sym journal_same) runs.playing.read;
         lost = subst (IsCutShort inputs old.pair.process.input) (sym input_met) lost;
       }
@@ -154,8 +160,8 @@ module _ {V I W : Type 0} (media : MediaOutside V) (inputs : SourceOutside I) (s
 
   -- by what was answered
   under_way_by : (new : Pair V I W) (answer : Result (Unit {0}) CycleFault) → Cycles inputs sinks (now_of on old) old.pair answer new → OnOk answer (Runs media inputs sinks (now_of on old) new) →
-      Rests media (now_of on old) new → IsUnderWay media inputs sinks on (record { pair = new; failed = after_cycle answer old.failed })
-  under_way_by new (Ok x) cycles ok rests = let now = now_runs media inputs sinks (now_of on old) new ok in record {
+      Rests media (now_of on old) new → HearsInput inputs (now_of on old) new → IsUnderWay media inputs sinks on (record { pair = new; failed = after_cycle answer old.failed })
+  under_way_by new (Ok x) cycles ok rests hears = let now = now_runs media inputs sinks (now_of on old) new ok in record {
     rests = now_rests media (now_of on old) new rests;
     runs = λ still. now;
     shut = λ stopped. absurd (false≢true (sym goes ∙ stopped));
@@ -163,11 +169,13 @@ module _ {V I W : Type 0} (media : MediaOutside V) (inputs : SourceOutside I) (s
         (subst (λ n. IsCounted (inputs.faults on.input) n old.failed.input) (sym cycles.reads.no_fault) is.counts.inputs_are)
         (subst (λ n. IsCounted (sinks.faults on.master) n old.failed.master) (sym cycles.writes.cause.kept) is.counts.masters);
     opened = opened new (Ok x) cycles;
+    hears = hears;
+    input = input_of new (Ok x) cycles cycles.reads.stream cycles.reads.block;
     mastered = λ fine. now.mastered refl;
     cut = λ bad. absurd (master_is_fine old.failed goes bad);
     input_short = λ bad. absurd (input_is_fine old.failed goes bad);
   }
-  under_way_by new (Err InputFault) cycles ok rests = record {
+  under_way_by new (Err InputFault) cycles ok rests hears = record {
     rests = now_rests media (now_of on old) new rests;
     runs = λ still. absurd (false≢true (sym still));
     shut = λ stopped. shut new (Err InputFault) cycles;
@@ -176,11 +184,13 @@ module _ {V I W : Type 0} (media : MediaOutside V) (inputs : SourceOutside I) (s
         cycles.reads.later cycles.reads.rose is.counts.inputs_are)
         (subst (λ (m : MasterState W). IsCounted (sinks.faults on.master) (sinks.faults m.sink) old.failed.master) (sym cycles.writes) is.counts.masters);
     opened = opened new (Err InputFault) cycles;
+    hears = hears;
+    input = input_of new (Err InputFault) cycles cycles.reads.stream cycles.reads.block;
     mastered = λ fine. mastered_still new (Err InputFault) cycles cycles.fault cycles.writes (is.mastered fine) (record old.failed { input = true });
     cut = λ bad. absurd (master_is_fine old.failed goes bad);
     input_short = λ bad. short new (Err InputFault) cycles cycles.fault (record old.failed { input = true }) cycles.reads.short;
   }
-  under_way_by new (Err MasterFault) cycles ok rests = record {
+  under_way_by new (Err MasterFault) cycles ok rests hears = record {
     rests = now_rests media (now_of on old) new rests;
     runs = λ still. absurd (false≢true (sym still ∙ or_right old.failed.input true refl));
     shut = λ stopped. shut new (Err MasterFault) cycles;
@@ -189,15 +199,19 @@ module _ {V I W : Type 0} (media : MediaOutside V) (inputs : SourceOutside I) (s
         (counted_more (sinks.faults on.master) (sinks.faults old.pair.process.master.sink) (sinks.faults cycles.process.master.sink) old.failed.master
         cycles.writes.cause.later cycles.writes.cause.rose is.counts.masters);
     opened = opened new (Err MasterFault) cycles;
+    hears = hears;
+    input = input_of new (Err MasterFault) cycles cycles.reads.stream cycles.reads.block;
     mastered = λ fine. absurd (false≢true (sym fine));
-    cut = λ bad. inr (cut_in_cycle new (Err MasterFault) cycles cycles.fault cycles.writes.front);
+    cut = λ bad. inr (cut_in_cycle new (Err MasterFault) cycles cycles.fault cycles.reads.place cycles.writes.front (record old.failed { master = true }));
     input_short = λ bad. absurd (input_is_fine old.failed goes bad);
   }
 
   -- **A run that made a cycle is under way.**
   pub under_way_cycled : (new : Pair V I W) (answer : Result (Unit {0}) CycleFault) (failed : Failed) → failed ≡ after_cycle answer old.failed → Cycles inputs sinks (now_of on old) old.pair answer new →
-      OnOk answer (Runs media inputs sinks (now_of on old) new) → Rests media (now_of on old) new → IsUnderWay media inputs sinks on (record { pair = new; failed = failed })
-  under_way_cycled new answer failed same cycles ok rests = subst (λ (f : Failed). IsUnderWay media inputs sinks on (record { pair = new; failed = f })) (sym same) (under_way_by new answer cycles ok rests)
+      OnOk answer (Runs media inputs sinks (now_of on old) new) → Rests media (now_of on old) new → HearsInput inputs (now_of on old) new →
+      IsUnderWay media inputs sinks on (record { pair = new; failed = failed })
+  under_way_cycled new answer failed same cycles ok rests hears = subst (λ (f : Failed). IsUnderWay media inputs sinks on (record { pair = new; failed = f })) (sym same)
+      (under_way_by new answer cycles ok rests hears)
 
 -- ---- the core machine
 

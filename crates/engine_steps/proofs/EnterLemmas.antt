@@ -40,8 +40,10 @@ module _ {V I W : Type 0} (media : MediaOutside V) (inputs : SourceOutside I) (s
     shut = λ stopped. absurd (false≢true (sym going ∙ stopped));
     counts = counts_stand media inputs sinks on old (record { pair = in_edition e open_now; failed = old.failed }) refl refl refl refl refl refl is.counts;
     opened = is.opened;
+    hears = is.hears;
     mastered = is.mastered;
     cut = is.cut;
+    input = is.input;
     input_short = λ lost. short_stands inputs on old (record { pair = in_edition e open_now; failed = old.failed }) refl refl (is.input_short lost);
   }
 

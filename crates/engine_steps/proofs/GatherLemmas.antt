@@ -22,7 +22,7 @@ use Rattle.engine_steps.specs.declared.failed.Failed.{Failed}
 use Rattle.engine_steps.specs.declared.run.Run.{Run}
 use Rattle.engine_steps.specs.Failed.{has_stopped}
 use Rattle.engine_steps.specs.Started.{Started, now_of}
-use Rattle.engine_steps.specs.UnderWay.{IsUnderWay}
+use Rattle.engine_steps.specs.UnderWay.{IsInputOf, IsUnderWay}
 use Rattle.engine_steps.specs.Letters.{EnteringIsE, EntersOn, GatheringIsG, GathersOn}
 use Rattle.engine_steps.proofs.EnterLemmas.{cycles_entered, either}
 use Rattle.engine_steps.proofs.KeepLemmas.{counts_stand}
@@ -73,8 +73,10 @@ module _ {V I W : Type 0} where
             (ap (λ (z : ProcessState I W). z.input.input) looks.met.process_is ∙ ap (λ (z : ProcessState I W). z.input.input) looks.keeps.same)
             (ap (λ (z : ProcessState I W). z.master.sink) looks.met.process_is ∙ ap (λ (z : ProcessState I W). z.master.sink) looks.keeps.same) is.counts;
         opened = ap (λ (b : ButlerState V). b.sources.opened) looks.met.butler ∙ is.opened;
+        hears = runs_now.playing.hears;
         mastered = λ fine. runs_now.mastered refl;
         cut = λ bad. absurd (master_is_fine old.failed going bad);
+        input = subst (IsInputOf on) (sym (ap (λ (z : ProcessState I W). z.input) looks.met.process_is ∙ ap (λ (z : ProcessState I W). z.input) looks.keeps.same)) is.input;
         input_short = λ bad. absurd (input_is_fine old.failed going bad);
       }
 

@@ -1,5 +1,5 @@
 -- What is so of a run under way stands while its workers go on: counts of faults, what was received, and where master and input were cut off.
-use Rattle.std.proofs.Common.{◌≡◌, inl, inr, ℕ, ◌≤◌, length, refl, sym, ap, subst, arith, ◌∙◌}
+use Rattle.std.proofs.Common.{◌≡◌, inl, inr, ℕ, suc, ◌≤◌, length, refl, sym, ap, subst, arith, ◌∙◌}
 use Rattle.std.specs.Prelude.{◌⊎◌, Bool, true, false, Ok, Err}
 use Rattle.std.proofs.lemmas.Bool.{true≢false}
 use Rattle.ses_io.specs.FixedList.{Listed}
@@ -14,7 +14,7 @@ use Rattle.track_playback.specs.SpareBoxes.{received_items}
 use Rattle.process_cycle.specs.declared.ends.ProcessEnds.{ProcessEnds}
 use Rattle.process_cycle.specs.Cycles.{next_bytes}
 use Rattle.process_cycle.specs.Ends.{AreOtherEnds, EndsMeet}
-use Rattle.process_cycle.specs.ProcessState.{ProcessState, items_of}
+use Rattle.process_cycle.specs.ProcessState.{Playing, ProcessState, items_of}
 use Rattle.worker_pair.specs.Begun.{At, Begun, headed}
 use Rattle.worker_pair.specs.Runs.{Rests}
 use Rattle.worker_pair.specs.Tied.{rings_of}
@@ -22,6 +22,7 @@ use Rattle.worker_pair.specs.declared.pair.Pair.{Pair}
 use Rattle.worker_pair.proofs.EntryLemmas.{same_maps}
 use Rattle.worker_pair.proofs.MetLemmas.{play_met}
 use Rattle.worker_pair.proofs.NowLemmas.{serves_as}
+use Rattle.engine_steps.specs.declared.failed.Failed.{Failed}
 use Rattle.engine_steps.specs.declared.run.Run.{Run}
 use Rattle.engine_steps.specs.Failed.{IsCounted}
 use Rattle.engine_steps.specs.Started.{Started, AreCounted}
@@ -58,6 +59,17 @@ counted_ok before was now rose x cause c = counted_still before was now rose cau
 pub counted_err : {T E : Type 0} (before was now : ℕ) (rose : Bool) (e : E) → HasCause {T = T} was now (Err e) → IsCounted before was rose → IsCounted before now true
 counted_err before was now rose e cause c = counted_more before was now rose cause.later cause.rose c
 
+-- ---- what failed
+
+-- nothing failed yet
+abbrev pub none_failed : Failed
+none_failed = record { input = false; master = false; read = false; write = false }
+
+-- so it is where each is false
+pub none_is : (f : Failed) → f.input ≡ false → f.master ≡ false → f.read ≡ false → f.write ≡ false → f ≡ none_failed
+none_is f i m r w = ap (λ x. record f { input = x }) i ∙ ap (λ x. record f { input = false; master = x }) m ∙ ap (λ x. record { input = false; master = false; read = x; write = f.write }) r
+    ∙ ap (λ x. record { input = false; master = false; read = false; write = x }) w
+
 -- ---- what was received
 
 -- a meeting changes nothing of it
@@ -69,20 +81,18 @@ items_met q theirs ours_now theirs_now others meet = same_maps received_items re
 -- ---- where master and input were cut off
 
 module _ {I W : Type 0} where
-  -- the master, where nothing was noted, received or written since
-  pub cut_stands : (inputs : SourceOutside I) (sinks : SinkOutside W) (begun : Begun) (p q : ProcessState I W) → q.journal ≡ p.journal → items_of q ≡ items_of p → q.master.sink ≡ p.master.sink →
-      IsCutAtHead sinks begun p ⊎ IsCutInCycle inputs sinks begun p → IsCutAtHead sinks begun q ⊎ IsCutInCycle inputs sinks begun q
-  cut_stands inputs sinks begun p q journal items sink (inl cut) = inl record {
+  -- the master, where nothing was noted, received, read or written since
+  pub cut_stands : (inputs : SourceOutside I) (sinks : SinkOutside W) (begun : Begun) (at : Playing) (p q : ProcessState I W) → q.journal ≡ p.journal → items_of q ≡ items_of p → q.input ≡ p.input →
+      q.master.sink ≡ p.master.sink → IsCutAtHead inputs sinks begun p ⊎ IsCutInCycle inputs sinks at p → IsCutAtHead inputs sinks begun q ⊎ IsCutInCycle inputs sinks at q
+  cut_stands inputs sinks begun at p q journal items input sink (inl cut) = inl record {
     none = ap (λ (j : Listed Entry). j.items) journal ∙ cut.none;
+    read = subst (IsReadTo inputs (record { start = begun.start; blocks = 0 })) (sym input) cut.read;
     front = λ tells. subst (λ n. AppendsSome begun.before (sinks.held q.master.sink) (head_bytes begun.session n)) (sym (ap (λ (j : Listed Entry). j.room) journal))
         (subst (λ w. AppendsSome begun.before (sinks.held w) (head_bytes begun.session p.journal.room)) (sym sink) (cut.front tells));
   }
-  cut_stands inputs sinks begun p q journal items sink (inr cut) = inr record {
-    at = cut.at;
+  cut_stands inputs sinks begun at p q journal items input sink (inr cut) = inr record {
     before = cut.before;
     edition = cut.edition;
-    session_is = cut.session_is;
-    first = cut.first;
     playing = cut.playing;
     looked = cut.looked;
     edition_of = cut.edition_of;
@@ -92,7 +102,9 @@ module _ {I W : Type 0} where
     mastered = cut.mastered;
     journal = journal ∙ cut.journal;
     items = items ∙ cut.items;
-    front = λ tells. subst (λ w. AppendsSome (sinks.held cut.before.master.sink) (sinks.held w) (next_bytes begun.session cut.edition cut.before)) (sym sink) (cut.front tells);
+    read = subst (λ (j : Listed Entry). IsReadTo inputs (record { start = at.start; blocks = suc (length j.items) }) q.input) (sym journal)
+        (subst (IsReadTo inputs (record { start = at.start; blocks = suc (length p.journal.items) })) (sym input) cut.read);
+    front = λ tells. subst (λ w. AppendsSome (sinks.held cut.before.master.sink) (sinks.held w) (next_bytes at.session cut.edition cut.before)) (sym sink) (cut.front tells);
   }
 
 module _ {V I W : Type 0} where
@@ -101,6 +113,7 @@ module _ {V I W : Type 0} where
       InputIsShort inputs on r → InputIsShort inputs on q
   short_stands inputs on r q journal input short = record {
     before = short.before;
+    of = short.of;
     read = subst (λ (j : Listed Entry). IsReadTo inputs (record { start = on.begun.start; blocks = length j.items }) short.before) (sym journal) short.read;
     lost = subst (IsCutShort inputs short.before) (sym input) short.lost;
   }

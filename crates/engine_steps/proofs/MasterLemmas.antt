@@ -8,6 +8,7 @@ use Rattle.ses_io.specs.Streams.{AppendsSome}
 use Rattle.ses_io.specs.Outside.{MediaOutside, SourceOutside, SinkOutside, Writes}
 use Rattle.engine_model.specs.Played.{samples_of}
 use Rattle.cycle_journal.specs.JournalView.{seen_entries}
+use Rattle.input_blocks.specs.State.{IsReadTo}
 use Rattle.master_blocks.specs.Bytes.{head_bytes, entry_bytes, end_bytes}
 use Rattle.process_cycle.specs.declared.fault.CycleFault.{CycleFault}
 use Rattle.process_cycle.specs.declared.fault.CycleFault.TheVariants.{InputFault, MasterFault}
@@ -16,24 +17,15 @@ use Rattle.process_cycle.specs.Promised.{IsMastered}
 use Rattle.worker_pair.specs.declared.pair.Pair.{Pair}
 use Rattle.worker_pair.specs.Begun.{at_first, headed, playing_at}
 use Rattle.worker_pair.specs.Plays.{OnlyTheMaster}
-use Rattle.worker_pair.specs.Runs.{Rests, Runs, at_now}
+use Rattle.worker_pair.specs.Runs.{HearsInput, Rests, Runs, at_now}
 use Rattle.worker_pair.proofs.NowLemmas.{now_rests, now_runs}
 use Rattle.engine_steps.specs.declared.failed.Failed.{Failed}
 use Rattle.engine_steps.specs.declared.run.Run.{Run}
 use Rattle.engine_steps.specs.Failed.{IsCounted, after_cycle}
 use Rattle.engine_steps.specs.Started.{Started, AreCounted, now_of}
 use Rattle.engine_steps.specs.Mastered.{HoldsAll, IsCutAtHead, IsCutAtEnd}
-use Rattle.engine_steps.specs.UnderWay.{IsFresh, IsUnderWay, IsWritten}
-use Rattle.engine_steps.proofs.KeepLemmas.{counted_still, counted_none, counted_ok, counted_err, rests_headed}
-
--- nothing failed yet
-abbrev none_failed : Failed
-none_failed = record { input = false; master = false; read = false; write = false }
-
--- so it is where each is false
-none_is : (f : Failed) → f.input ≡ false → f.master ≡ false → f.read ≡ false → f.write ≡ false → f ≡ none_failed
-none_is f i m r w = ap (λ x. record f { input = x }) i ∙ ap (λ x. record f { input = false; master = x }) m ∙ ap (λ x. record { input = false; master = false; read = x; write = f.write }) r
-    ∙ ap (λ x. record { input = false; master = false; read = false; write = x }) w
+use Rattle.engine_steps.specs.UnderWay.{InputIsShort, IsFresh, IsInputOf, IsUnderWay, IsWritten}
+use Rattle.engine_steps.proofs.KeepLemmas.{counted_still, counted_none, counted_ok, counted_err, none_failed, none_is, rests_headed, short_stands}
 
 -- it was no fault of the input
 not_input : InputFault ≡ MasterFault → ⊥
@@ -82,10 +74,21 @@ module _ {V I W : Type 0} (media : MediaOutside V) (inputs : SourceOutside I) (s
   still_shut : q.in_cycle ≡ false
   still_shut = ap (λ (z : Pair V I W). z.in_cycle) same ∙ fresh.shut
 
+  -- the input is that of the run,
+  input_begun : IsInputOf on q.process.input
+  input_begun = subst (λ (z : Pair V I W). IsInputOf on z.process.input) (sym same) (record { stream = fresh.stream_is; block = fresh.runs.playing.frames })
+
+  -- and what was captured is of one sound
+  hears_begun : HearsInput inputs (at_first on.begun) q
+  hears_begun = subst (λ (z : Pair V I W). HearsInput inputs (at_first on.begun) z) (sym same) fresh.runs.playing.hears
+
   -- a front of the header was written
-  cut_at_head : (sinks.tells → AppendsSome (sinks.held p.process.master.sink) (sinks.held q.process.master.sink) (head_bytes on.begun.session p.process.journal.room)) → IsCutAtHead sinks on.begun q.process
+  cut_at_head : (sinks.tells → AppendsSome (sinks.held p.process.master.sink) (sinks.held q.process.master.sink) (head_bytes on.begun.session p.process.journal.room)) →
+      IsCutAtHead inputs sinks on.begun q.process
   cut_at_head front = record {
     none = ap (λ (z : Pair V I W). z.process.journal.items) same ∙ fresh.none;
+    read = subst (λ (z : Pair V I W). IsReadTo inputs (record { start = on.begun.start; blocks = 0 }) z.process.input) (sym same)
+        (subst (λ n. IsReadTo inputs (record { start = on.begun.start; blocks = n }) p.process.input) (ap length fresh.none) fresh.runs.playing.read);
     front = λ tells. subst (λ before. AppendsSome before (sinks.held q.process.master.sink) (head_bytes on.begun.session q.process.journal.room)) (ap sinks.held fresh.master_is ∙ fresh.held)
         (subst (λ n. AppendsSome (sinks.held p.process.master.sink) (sinks.held q.process.master.sink) (head_bytes on.begun.session n)) (sym (ap (λ (z : Pair V I W). z.process.journal.room) same)) (front tells));
   }
@@ -107,6 +110,8 @@ module _ {V I W : Type 0} (media : MediaOutside V) (inputs : SourceOutside I) (s
       butler_writes = no_write;
     };
     opened = opened_same;
+    hears = hears_begun;
+    input = input_begun;
     mastered = λ fine. (now_runs media inputs sinks (headed (at_first on.begun)) q runs).mastered refl;
     cut = λ broken. absurd (false≢true broken);
     input_short = λ broken. absurd (false≢true broken);
@@ -125,6 +130,8 @@ module _ {V I W : Type 0} (media : MediaOutside V) (inputs : SourceOutside I) (s
       butler_writes = no_write;
     };
     opened = opened_same;
+    hears = hears_begun;
+    input = input_begun;
     mastered = λ fine. absurd (true≢false fine);
     cut = λ broken. inl (cut_at_head writes.front);
     input_short = λ broken. absurd (false≢true broken);
@@ -159,6 +166,9 @@ module _ {V I W : Type 0} (media : MediaOutside V) (inputs : SourceOutside I) (s
     only = refl;
     rests = under.rests;
     counts = under.counts;
+    hears = under.hears;
+    input = under.input;
+    input_short = under.input_short;
     failed = refl;
     stays = λ so. refl;
     ends = λ fine. absurd (true≢false (sym broken ∙ fine));
@@ -181,6 +191,18 @@ module _ {V I W : Type 0} (media : MediaOutside V) (inputs : SourceOutside I) (s
       butler_writes = ap (λ (z : Pair V I W). z.butler.write_failed) same ∙ under.counts.butler_writes;
     }
 
+    -- what was captured is of one sound still,
+    hears_ended : HearsInput inputs (now_of on old) q
+    hears_ended = subst (λ (z : Pair V I W). HearsInput inputs (now_of on old) z) (sym same) under.hears
+
+    -- and the input is as it was
+    input_ended : q.process.input ≡ old.pair.process.input
+    input_ended = ap (λ (z : Pair V I W). z.process.input) same
+
+    short_ended : (m : Bool) → old.failed.input ≡ true → InputIsShort inputs on (record { pair = q; failed = record old.failed { master = m } })
+    short_ended m broken = short_stands inputs on old (record { pair = q; failed = record old.failed { master = m } }) (ap (λ (z : Pair V I W). z.process.journal) same) input_ended
+        (under.input_short broken)
+
     -- the end was written, or a front of it
     ended : (answer : Result (Unit {0}) CycleFault) → Writes sinks (end_bytes on.begun.session old.pair.process.journal.room (length old.pair.process.journal.items))
         old.pair.process.master.sink q.process.master.sink answer → IfErr answer (λ why. why ≡ MasterFault) → IsWritten media inputs sinks on old (record { pair = q; failed = after_cycle answer old.failed })
@@ -189,6 +211,9 @@ module _ {V I W : Type 0} (media : MediaOutside V) (inputs : SourceOutside I) (s
       rests = now_rests media (now_of on old) q rests;
       counts = counts_now old.failed.master
           (counted_ok (sinks.faults on.master) (sinks.faults old.pair.process.master.sink) (sinks.faults q.process.master.sink) old.failed.master u writes.cause under.counts.masters);
+      hears = hears_ended;
+      input = subst (IsInputOf on) (sym input_ended) under.input;
+      input_short = short_ended old.failed.master;
       failed = refl;
       stays = λ broken. absurd (false≢true (sym fine ∙ broken));
       ends = λ so. record { answer = Ok u; writes = writes; failed = refl };
@@ -202,6 +227,9 @@ module _ {V I W : Type 0} (media : MediaOutside V) (inputs : SourceOutside I) (s
       rests = now_rests media (now_of on old) q rests;
       counts = counts_now true
           (counted_err (sinks.faults on.master) (sinks.faults old.pair.process.master.sink) (sinks.faults q.process.master.sink) old.failed.master MasterFault writes.cause under.counts.masters);
+      hears = hears_ended;
+      input = subst (IsInputOf on) (sym input_ended) under.input;
+      input_short = short_ended true;
       failed = refl;
       stays = λ broken. absurd (false≢true (sym fine ∙ broken));
       ends = λ so. record { answer = Err MasterFault; writes = writes; failed = refl };

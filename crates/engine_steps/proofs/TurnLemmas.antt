@@ -1,6 +1,6 @@
 -- A turn of the butler leaves a run under way, and is the letter B of the core machine while nothing fails.
 use Rattle.std.proofs.Common.{◌≡◌, ℕ, refl, sym, ap, subst, ◌∙◌}
-use Rattle.std.specs.Prelude.{Bool, true, false, not, ◌||◌, if◌then◌else◌, Result, Ok, Err}
+use Rattle.std.specs.Prelude.{◌⊎◌, Bool, true, false, not, ◌||◌, if◌then◌else◌, Result, Ok, Err}
 use Rattle.std.proofs.lemmas.Bool.{false≢true}
 use Rattle.ses_io.specs.Outside.{MediaOutside, SourceOutside, SinkOutside}
 use Rattle.session_model.specs.declared.session.Session.{Session}
@@ -14,7 +14,7 @@ use Rattle.process_cycle.specs.Promised.{IsMastered}
 use Rattle.worker_pair.specs.declared.ending.Ending.{Ending}
 use Rattle.worker_pair.specs.declared.pair.Pair.{Pair}
 use Rattle.worker_pair.specs.Begun.{At, playing_at, turned}
-use Rattle.worker_pair.specs.Runs.{Rests, Runs}
+use Rattle.worker_pair.specs.Runs.{HearsInput, Rests, Runs}
 use Rattle.worker_pair.specs.Steps.{PairTurnsAsMachine, Turns, TurnsOnly, is_idle_answer}
 use Rattle.worker_pair.specs.Tied.{rings_of}
 use Rattle.worker_pair.proofs.NowLemmas.{now_rests, now_runs}
@@ -24,7 +24,8 @@ use Rattle.engine_steps.specs.declared.run.Run.{Run}
 use Rattle.engine_steps.specs.Failed.{IsCounted, after_turn, has_stopped, nothing_failed}
 use Rattle.engine_steps.specs.Started.{Started, AreCounted, now_of}
 use Rattle.engine_steps.specs.Letters.{TurnIsB}
-use Rattle.engine_steps.specs.UnderWay.{IsUnderWay}
+use Rattle.engine_steps.specs.Mastered.{IsCutAtHead, IsCutInCycle}
+use Rattle.engine_steps.specs.UnderWay.{IsInputOf, IsUnderWay}
 use Rattle.engine_steps.proofs.KeepLemmas.{counted_still, counted_more, items_met, cut_stands, short_stands}
 
 -- ---- by what a turn answers
@@ -158,15 +159,19 @@ module _ {V I W : Type 0} (media : MediaOutside V) (inputs : SourceOutside I) (s
 
   -- it is under way
   pub under_turned : Rests media at new.pair → (Runs media inputs sinks (now_of on old) old.pair → Runs media inputs sinks at new.pair) →
-      (IsMastered sinks (playing_at (now_of on old)) old.pair.process → IsMastered sinks (playing_at (now_of on old)) new.pair.process) → IsUnderWay media inputs sinks on new
-  under_turned rests runs mastered = record {
+      (IsMastered sinks (playing_at (now_of on old)) old.pair.process → IsMastered sinks (playing_at (now_of on old)) new.pair.process) →
+      (HearsInput inputs (now_of on old) old.pair → HearsInput inputs (now_of on old) new.pair) → IsUnderWay media inputs sinks on new
+  under_turned rests runs mastered hears = record {
     rests = now_rests media at new.pair rests;
     runs = λ going. now_runs media inputs sinks at new.pair (runs (under.runs (sym stopped_same ∙ going)));
     shut = λ over. ap (λ (z : Pair V I W). z.in_cycle) only ∙ under.shut (sym stopped_same ∙ over);
     counts = counts_on;
     opened = ap (λ (b : ButlerState V). b.sources.opened) butler_is ∙ turns.turn.rest.sources ∙ under.opened;
+    hears = hears under.hears;
     mastered = λ fine. subst (λ (z : Playing). IsMastered sinks z new.pair.process) (sym played_same) (mastered (under.mastered (sym master_failed ∙ fine)));
-    cut = λ broken. cut_stands inputs sinks on.begun old.pair.process new.pair.process (ap (λ (z : Pair V I W). z.process.journal) only) items_same (ap (λ (z : Pair V I W). z.process.master.sink) only)
-        (under.cut (sym master_failed ∙ broken));
+    cut = λ broken. subst (λ (z : Playing). IsCutAtHead inputs sinks on.begun new.pair.process ⊎ IsCutInCycle inputs sinks z new.pair.process) (sym played_same)
+        (cut_stands inputs sinks on.begun (playing_at (now_of on old)) old.pair.process new.pair.process (ap (λ (z : Pair V I W). z.process.journal) only) items_same
+        (ap (λ (z : Pair V I W). z.process.input) only) (ap (λ (z : Pair V I W). z.process.master.sink) only) (under.cut (sym master_failed ∙ broken)));
+    input = subst (IsInputOf on) (sym (ap (λ (z : Pair V I W). z.process.input) only)) under.input;
     input_short = λ broken. short_stands inputs on old new (ap (λ (z : Pair V I W). z.process.journal) only) (ap (λ (z : Pair V I W). z.process.input) only) (under.input_short (sym input_failed ∙ broken));
   }

@@ -1,5 +1,5 @@
 -- What the master of a run holds, whatever has failed.
-use Rattle.std.specs.Prelude.{◌≡◌, ◌<◌, false, [], ◌++◌, length, List}
+use Rattle.std.specs.Prelude.{◌≡◌, suc, ◌<◌, false, [], ◌++◌, length, List}
 use Rattle.std.specs.List.{flat_map}
 use Rattle.sound_model.specs.Regions.{Sounds}
 use Rattle.ses_io.specs.Streams.{AppendsSome}
@@ -7,6 +7,7 @@ use Rattle.ses_io.specs.Outside.{SourceOutside, SinkOutside}
 use Rattle.session_model.specs.declared.edit.Edit.{Edit}
 use Rattle.engine_model.specs.Played.{samples_of}
 use Rattle.edition_log.specs.EditionState.{EditionState as Edition, IsEditionOf}
+use Rattle.input_blocks.specs.State.{IsReadTo}
 use Rattle.master_blocks.specs.Bytes.{head_bytes, entry_bytes, end_bytes}
 use Rattle.cycle_journal.specs.JournalView.{seen_entries}
 use Rattle.process_cycle.specs.Cycles.{next_bytes}
@@ -20,21 +21,20 @@ module _ {I W : Type 0} where
   -- ---- where a write failed
 
   -- The write of the header failed: there is no entry, and a front of it was written.
-  pub record IsCutAtHead (sinks : SinkOutside W) (begun : Begun) (p : ProcessState I W) : Type 0 where
+  pub record IsCutAtHead (inputs : SourceOutside I) (sinks : SinkOutside W) (begun : Begun) (p : ProcessState I W) : Type 0 where
     pub none : p.journal.items ≡ []
+    -- no block of the input was read
+    pub read : IsReadTo inputs (record { start = begun.start; blocks = 0 }) p.input
     pub front : sinks.tells → AppendsSome begun.before (sinks.held p.master.sink) (head_bytes begun.session p.journal.room)
 
   -- The write of a block failed: the process as it was before that cycle, in which no entry was made, and a front of its block.
-  pub record IsCutInCycle (inputs : SourceOutside I) (sinks : SinkOutside W) (begun : Begun) (p : ProcessState I W) : Type 0 where
-    pub at : Playing
+  pub record IsCutInCycle (inputs : SourceOutside I) (sinks : SinkOutside W) (at : Playing) (p : ProcessState I W) : Type 0 where
     pub before : ProcessState I W
     pub edition : Edition
-    pub session_is : at.session ≡ begun.session
-    pub first : at.before ≡ begun.before
     -- the cycle might have been made
     pub playing : IsPlaying inputs at before
     pub looked : HasLooked at before
-    pub edition_of : IsEditionOf begun.session edition
+    pub edition_of : IsEditionOf at.session edition
     pub given : edition.edits ≡ at.edits
     pub unended : edition.transport.quit ≡ false
     pub room : length before.journal.items < before.journal.room
@@ -42,7 +42,9 @@ module _ {I W : Type 0} where
     -- since then nothing was noted or received
     pub journal : p.journal ≡ before.journal
     pub items : items_of p ≡ items_of before
-    pub front : sinks.tells → AppendsSome (sinks.held before.master.sink) (sinks.held p.master.sink) (next_bytes begun.session edition before)
+    -- but its block of the input was read
+    pub read : IsReadTo inputs (record { start = at.start; blocks = suc (length p.journal.items) }) p.input
+    pub front : sinks.tells → AppendsSome (sinks.held before.master.sink) (sinks.held p.master.sink) (next_bytes at.session edition before)
 
   -- ---- at the end
 

@@ -2,6 +2,7 @@
 use Rattle.std.specs.Prelude.{◌≡◌, Bool, true, ◌||◌, nat_le, length, List}
 use Rattle.ses_io.specs.Outside.{MediaOutside, SourceOutside, SinkOutside}
 use Rattle.audio_source.specs.Opened.{OpenedSource}
+use Rattle.input_blocks.specs.Rest.{StreamForm}
 use Rattle.worker_pair.specs.Begun.{Begun, At}
 use Rattle.worker_pair.specs.Runs.{at_now}
 use Rattle.engine_steps.specs.declared.run.Run.{Run}
@@ -12,6 +13,8 @@ pub record Started (V I W : Type 0) : Type 0 where
   pub begun : Begun
   -- the sources that were opened
   pub opened : List OpenedSource
+  -- what was told of the data of the input
+  pub stream : StreamForm
   -- the objects themselves, for their counts of faults
   pub media : V
   pub input : I

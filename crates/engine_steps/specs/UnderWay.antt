@@ -8,7 +8,7 @@ use Rattle.process_cycle.specs.Promised.{IsMastered}
 use Rattle.worker_pair.specs.declared.pair.Pair.{Pair}
 use Rattle.worker_pair.specs.Begun.{at_first, playing_at}
 use Rattle.worker_pair.specs.Plays.{OnlyTheMaster}
-use Rattle.worker_pair.specs.Runs.{Rests, Runs}
+use Rattle.worker_pair.specs.Runs.{HearsInput, Rests, Runs}
 use Rattle.engine_steps.specs.declared.run.Run.{Run}
 use Rattle.engine_steps.specs.Failed.{has_stopped, after_cycle}
 use Rattle.engine_steps.specs.Started.{Started, now_of, AreCounted}
@@ -25,14 +25,22 @@ module _ {V I W : Type 0} where
     pub media_is : p.butler.media ≡ on.media
     pub opened : p.butler.sources.opened ≡ on.opened
     pub input_is : p.process.input.input ≡ on.input
+    pub stream_is : p.process.input.stream ≡ on.stream
     pub master_is : p.process.master.sink ≡ on.master
     pub held : sinks.held on.master ≡ on.begun.before
     pub none_read : p.butler.read_failed ≡ false
     pub none_written : p.butler.write_failed ≡ false
 
+  -- This is the input of the run: its stream is the one that was told of, in blocks of the session's frames.
+  pub record IsInputOf (on : Started V I W) (x : InputState I) : Type 0 where
+    pub stream : x.stream ≡ on.stream
+    pub block : x.block ≡ on.begun.session.block
+
   -- A read of the input failed: it had given the blocks of the entries, and lost less than one more.
   pub record InputIsShort (inputs : SourceOutside I) (on : Started V I W) (r : Run V I W) : Type 0 where
+    -- the input as it was before that read
     pub before : InputState I
+    pub of : IsInputOf on before
     pub read : IsReadTo inputs (record { start = on.begun.start; blocks = length r.pair.process.journal.items }) before
     pub lost : IsCutShort inputs before r.pair.process.input
 
@@ -44,9 +52,13 @@ module _ {V I W : Type 0} where
     pub shut : has_stopped r.failed ≡ true → r.pair.in_cycle ≡ false
     pub counts : AreCounted media inputs sinks on r
     pub opened : r.pair.butler.sources.opened ≡ on.opened
-    -- the master holds its header and a block for each entry, or it was cut off
+    -- what was captured is of one sound, which is the input's where it tells
+    pub hears : HearsInput inputs (now_of on r) r.pair
+    -- the master holds its header and a block for each entry, or it was cut off: in its header, or in a cycle by the edits of this run
     pub mastered : r.failed.master ≡ false → IsMastered sinks (playing_at (now_of on r)) r.pair.process
-    pub cut : r.failed.master ≡ true → IsCutAtHead sinks on.begun r.pair.process ⊎ IsCutInCycle inputs sinks on.begun r.pair.process
+    pub cut : r.failed.master ≡ true → IsCutAtHead inputs sinks on.begun r.pair.process ⊎ IsCutInCycle inputs sinks (playing_at (now_of on r)) r.pair.process
+    -- its input is that of the run, and gave the blocks of the entries where a read of it failed
+    pub input : IsInputOf on r.pair.process.input
     pub input_short : r.failed.input ≡ true → InputIsShort inputs on r
 
   -- Its end was given to the master: all of it, or where a write failed a front.
@@ -61,10 +73,14 @@ module _ {V I W : Type 0} where
     pub only : OnlyTheMaster old.pair new.pair
     pub rests : Rests media (now_of on new) new.pair
     pub counts : AreCounted media inputs sinks on new
+    -- what was captured, and how the input was read, are as they were
+    pub hears : HearsInput inputs (now_of on new) new.pair
+    pub input : IsInputOf on new.pair.process.input
+    pub input_short : new.failed.input ≡ true → InputIsShort inputs on new
     pub failed : new.failed ≡ record old.failed { master = new.failed.master }
     -- nothing at all where a write of it had failed; else its end was written
     pub stays : old.failed.master ≡ true → new ≡ old
     pub ends : old.failed.master ≡ false → EndsMaster sinks on old new
     -- it holds header, blocks and end, or it was cut off
     pub whole : new.failed.master ≡ false → sinks.tells → HoldsAll sinks (playing_at (now_of on new)) new.pair.process
-    pub cut : new.failed.master ≡ true → (IsCutAtHead sinks on.begun new.pair.process ⊎ IsCutInCycle inputs sinks on.begun new.pair.process) ⊎ IsCutAtEnd sinks (playing_at (now_of on new)) new.pair.process
+    pub cut : new.failed.master ≡ true → (IsCutAtHead inputs sinks on.begun new.pair.process ⊎ IsCutInCycle inputs sinks (playing_at (now_of on new)) new.pair.process) ⊎ IsCutAtEnd sinks (playing_at (now_of on new)) new.pair.process

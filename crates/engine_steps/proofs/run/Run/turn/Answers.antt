@@ -5,7 +5,7 @@ use Rattle.engine_steps.proofs.run.Run.turn.Goals as goal
 pub returns-clause-under_way : goal.returns-clause-under_way
 returns-clause-under_way g c = let did = c.turn-pair.ensures in let answer = c.turn-pair.result.1 in
     turns.under_turned g.M.Media.outside g.I.Source.outside g.W.Sink.outside g.on c.args.self c.requires.1.1.1 (record { pair = c.turn-pair.result.0; failed = c.after_turn.result }) answer did.same did.turns
-    c.after_turn.ensures did.rests did.runs did.mastered
+    c.after_turn.ensures did.rests did.runs did.mastered did.hears
 
 pub returns-clause-turns : goal.returns-clause-turns
 returns-clause-turns g c = let did = c.turn-pair.ensures in
