@@ -49,38 +49,38 @@ master_same (Err ReadFault) f = refl
 master_same (Err WriteFault) f = refl
 
 -- the count of failed reads rose where it is noted,
-reads_on : (answer : Result Turn ButlerFault) (f : Failed) (before was now : ℕ) → Counts (is_read_fault answer) was now → IsCounted before was f.read → IsCounted before now (after_turn answer f).read
+pub reads_on : (answer : Result Turn ButlerFault) (f : Failed) (before was now : ℕ) → Counts (is_read_fault answer) was now → IsCounted before was f.read → IsCounted before now (after_turn answer f).read
 reads_on (Ok t) f before was now same c = counted_still before was now f.read same c
 reads_on (Err ReadFault) f before was now more c = counted_more before was now f.read more.later more.rose c
 reads_on (Err WriteFault) f before was now same c = counted_still before was now f.read same c
 
 -- and so did that of failed writes
-writes_on : (answer : Result Turn ButlerFault) (f : Failed) (before was now : ℕ) → Counts (is_write_fault answer) was now → IsCounted before was f.write → IsCounted before now (after_turn answer f).write
+pub writes_on : (answer : Result Turn ButlerFault) (f : Failed) (before was now : ℕ) → Counts (is_write_fault answer) was now → IsCounted before was f.write → IsCounted before now (after_turn answer f).write
 writes_on (Ok t) f before was now same c = counted_still before was now f.write same c
 writes_on (Err ReadFault) f before was now same c = counted_still before was now f.write same c
 writes_on (Err WriteFault) f before was now more c = counted_more before was now f.write more.later more.rose c
 
 -- the butler knows of a read that failed,
-read_known : (answer : Result Turn ButlerFault) (f : Failed) (was now : Bool) → now ≡ (if is_read_fault answer then true else was) → was ≡ f.read → now ≡ (after_turn answer f).read
+pub read_known : (answer : Result Turn ButlerFault) (f : Failed) (was now : Bool) → now ≡ (if is_read_fault answer then true else was) → was ≡ f.read → now ≡ (after_turn answer f).read
 read_known (Ok t) f was now same known = same ∙ known
 read_known (Err ReadFault) f was now same known = same
 read_known (Err WriteFault) f was now same known = same ∙ known
 
 -- and of a write that failed
-write_known : (answer : Result Turn ButlerFault) (f : Failed) (was now : Bool) → now ≡ (if is_write_fault answer then true else was) → was ≡ f.write → now ≡ (after_turn answer f).write
+pub write_known : (answer : Result Turn ButlerFault) (f : Failed) (was now : Bool) → now ≡ (if is_write_fault answer then true else was) → was ≡ f.write → now ≡ (after_turn answer f).write
 write_known (Ok t) f was now same known = same ∙ known
 write_known (Err ReadFault) f was now same known = same ∙ known
 write_known (Err WriteFault) f was now same known = same
 
 -- where a read has failed, something has,
-some_read : (i m w : Bool) → not (i || m || true || w) ≡ false
+pub some_read : (i m w : Bool) → not (i || m || true || w) ≡ false
 some_read true true w = refl
 some_read true false w = refl
 some_read false true w = refl
 some_read false false w = refl
 
 -- and where a write has
-some_write : (i m r : Bool) → not (i || m || r || true) ≡ false
+pub some_write : (i m r : Bool) → not (i || m || r || true) ≡ false
 some_write true true true = refl
 some_write true true false = refl
 some_write true false true = refl

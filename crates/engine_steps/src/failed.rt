@@ -28,7 +28,7 @@ impl Failed {
     }
 
     /// What has failed after a turn of the butler.
-    pub(crate) fn after_turn(self, answer: &Result<Turn, ButlerFault>) -> Failed
+    pub fn after_turn(self, answer: &Result<Turn, ButlerFault>) -> Failed
         ensures { result ≡ after_turn answer.now self }
     {
         match answer {
