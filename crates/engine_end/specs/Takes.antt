@@ -1,0 +1,31 @@
+-- The takes that a run leaves.
+use Rattle.std.specs.Prelude.{◌≡◌, true, false}
+use Rattle.ses_io.specs.Outside.{MediaOutside, SourceOutside}
+use Rattle.cycle_journal.specs.JournalView.{seen_entries}
+use Rattle.engine_model.specs.Takes.{Input}
+use Rattle.capture_flush.specs.Finished.{Recorded, AreTakes, AreTakesInPart}
+use Rattle.input_blocks.specs.Rest.{rest_sound}
+use Rattle.worker_pair.specs.Begun.{Begun}
+use Rattle.engine_steps.specs.Started.{Started}
+use Rattle.engine_end.specs.declared.parting.Ended.{Ended}
+
+-- what takes are made of: session and files as they were at first, and what was heard
+abbrev pub recorded_of : Begun → Input → Recorded
+recorded_of begun input = record { session = begun.session; input = input; held = begun.files }
+
+-- the sound of the input of a run, by what it had left at first
+abbrev pub sound_of : {V I W : Type 0} → Started V I W → Input
+sound_of on = rest_sound on.stream on.begun.start
+
+-- **The takes that a run leaves**, of what was heard of its input.
+pub record LeavesTakes {V I W : Type 0} (media : MediaOutside V) (inputs : SourceOutside I) (on : Started V I W) (ended : Ended V I W) : Type 0 where
+  -- some sound, which is the input's own where it tells
+  pub input : Input
+  pub told_so : inputs.tells → input ≡ sound_of on
+  -- where tracks may be recorded the files hold exactly the takes that the journal names beside what they held
+  pub whole : on.begun.records ≡ true → media.tells → ended.failed.write ≡ false → AreTakes (recorded_of on.begun input) (seen_entries ended.journal.items) (media.files ended.media)
+  -- and once a write has failed, a front of each take's sound
+  pub in_part : on.begun.records ≡ true → media.tells → ended.failed.write ≡ true →
+      AreTakesInPart (recorded_of on.begun input) (seen_entries ended.journal.items) (media.files ended.media)
+  -- else no file has changed
+  pub same : on.begun.records ≡ false → media.files ended.media ≡ on.begun.files
