@@ -46,7 +46,7 @@ module _ {V I W : Type 0} (media : MediaOutside V) (at : At) (p : Pair V I W) (r
   edits = p.edition.edits
 
   -- what was received of each track is ordered
-  ordered : AreOrdered s edits (map received_kinds p.process.ends.plays.items)
+  pub ordered : AreOrdered s edits (map received_kinds p.process.ends.plays.items)
   ordered t xs here = let serves = rests.serves in let r = of_mapped received_kinds p.process.ends.plays.items t xs here in let sends = p.butler.ends.sends.items in
       let d = item_at sends t (omega (arith, slice_get_within p.process.ends.plays.items t r.0 r.1, serves.others.plays.count)) in
       let k = item_at p.butler.supplies t (omega (arith, slice_get_within sends t d.0 d.1, serves.serving.sends, serves.serving.supplies)) in
@@ -60,7 +60,7 @@ module _ {V I W : Type 0} (media : MediaOutside V) (at : At) (p : Pair V I W) (r
       (ordered_stays s at.served serves.served_of.0 t (reverse (kinds r.0.received)) of_served))
 
   -- the edits in which the process looked last are the first of all
-  played_first : at.played ++ drop p.played edits ≡ edits
+  pub played_first : at.played ++ drop p.played edits ≡ edits
   played_first = ap (λ l. l ++ drop p.played edits) rests.entered.played ∙ take-append-drop p.played edits
 
   pub journal_is_lawful : is_lawful_newest s edits (entries_of p.process) ≡ true

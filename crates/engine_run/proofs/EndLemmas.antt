@@ -1,8 +1,13 @@
 -- What a run that was played leaves, as its caller sees it.
-use Rattle.std.proofs.Common.{◌≡◌, length, refl, sym, ap, subst, ◌∙◌}
+use Rattle.std.proofs.Common.{◌≡◌, ℕ, length, refl, sym, ap, subst, ◌∙◌}
 use Rattle.std.specs.Prelude.{Bool, true, false, List, map, reverse, Option, Some, None, Result, Ok, Err, IfOk}
 use Rattle.std.proofs.lemmas.Bool.{or_from, or_parts, true≢false}
 use Rattle.engine_model.specs.Edits.{has_quit}
+use Rattle.ses_io.specs.FixedList.{Listed}
+use Rattle.cycle_journal.specs.declared.entry.Entry.{Entry}
+use Rattle.cycle_journal.specs.JournalView.{seen_entries, seen_entry}
+use Rattle.input_blocks.specs.State.{IsReadTo}
+use Rattle.std.proofs.lemmas.List.{length-map}
 use Rattle.ses_io.specs.Outside.{MediaOutside, SourceOutside, SinkOutside}
 use Rattle.control_desk.specs.State.{parts_of}
 use Rattle.control_desk.specs.Standing.{read_failed, write_failed}
@@ -17,7 +22,7 @@ use Rattle.run_world.specs.declared.opened.Script.{Script}
 use Rattle.engine_run.specs.Beginning.{MayRun, control_of, course_of, started_of}
 use Rattle.engine_run.specs.Finished.{FaultsAreCounted, LeavesRings, SendsGenuine, ended_of, finished_of}
 use Rattle.engine_run.specs.Lines.{GoesByItsLines}
-use Rattle.engine_run.specs.Mastered.{GetsTheMaster, MakesItsCycles}
+use Rattle.engine_run.specs.Mastered.{GetsTheMaster, MakesItsCycles, ReadsItsInput}
 use Rattle.engine_run.specs.Played.{IsPlayed}
 use Rattle.engine_run.proofs.AnswerLemmas.{ControlIsCounted, control_counted}
 use Rattle.engine_run.proofs.LinesLemmas as lines
@@ -71,20 +76,41 @@ module _ {M I C W O : Type 0} (media : MediaOutside M) (inputs : SourceOutside I
     leaves_rings : LeavesRings o (finished_of x.ended (parts_of x.engine.control))
     leaves_rings = record { passed = x.passed; left = x.left; acks = x.acks }
 
+    -- the process hadn't stopped before the end where it hasn't now
+    run_goes : has_stopped x.ended.failed ≡ false → has_stopped x.engine.run.failed ≡ false
+    run_goes goes = let none = or_parts x.ended.failed.input x.ended.failed.master goes in
+        or_from x.engine.run.failed.input x.engine.run.failed.master (sym x.written.input_failed ∙ none.0)
+        (before x.engine.run.failed.master (λ e. x.written.master_failed ∙ ap (λ r. r.failed.master) (x.written.is_written.stays e) ∙ e) none.1)
+      where
+        before : (was : Bool) → (was ≡ true → x.ended.failed.master ≡ true) → x.ended.failed.master ≡ false → was ≡ false
+        before false stays e = refl
+        before true stays e = absurd (true≢false (sym (stays refl) ∙ e))
+
     makes_its_cycles : MakesItsCycles o (finished_of x.ended (parts_of x.engine.control))
     makes_its_cycles = record {
       most = master.most_made media inputs source sinks sink on f x;
       all = λ unquit goes. master.all_made media inputs source sinks sink on f x (ap (λ l. has_quit l (length l)) (sym x.written.edits) ∙ unquit) (run_goes goes);
     }
+
+    reads_its_input : ReadsItsInput inputs (started_of media inputs sinks o) (finished_of x.ended (parts_of x.engine.control))
+    reads_its_input = record {
+      now = x.engine.run.pair.process.input;
+      is = sym x.written.input;
+      of = x.going.may.under_way.input;
+      read = λ goes. subst (λ n. IsReadTo inputs (record { start = o_start; blocks = n }) x.engine.run.pair.process.input) many (x.going.may.under_way.runs (run_goes goes)).playing.read;
+      fell = λ bad. let short = x.going.may.under_way.input_short (sym x.written.input_failed ∙ bad) in record {
+        before = short.before;
+        of = short.of;
+        read = subst (λ n. IsReadTo inputs (record { start = o_start; blocks = n }) short.before) many short.read;
+        lost = short.lost;
+      };
+    }
       where
-        run_goes : has_stopped x.ended.failed ≡ false → has_stopped x.engine.run.failed ≡ false
-        run_goes goes = let none = or_parts x.ended.failed.input x.ended.failed.master goes in
-            or_from x.engine.run.failed.input x.engine.run.failed.master (sym x.written.input_failed ∙ none.0)
-            (before x.engine.run.failed.master (λ e. x.written.master_failed ∙ ap (λ r. r.failed.master) (x.written.is_written.stays e) ∙ e) none.1)
-          where
-            before : (was : Bool) → (was ≡ true → x.ended.failed.master ≡ true) → x.ended.failed.master ≡ false → was ≡ false
-            before false stays e = refl
-            before true stays e = absurd (true≢false (sym (stays refl) ∙ e))
+        o_start : List ℕ
+        o_start = inputs.left o.world.input
+
+        many : length x.engine.run.pair.process.journal.items ≡ length (seen_entries x.ended.journal.items)
+        many = sym (ap (λ (j : Listed Entry). length j.items) x.written.journal) ∙ sym (length-map x.ended.journal.items seen_entry)
 
     faults_are_counted : FaultsAreCounted media inputs source sinks sink o (finished_of x.ended (parts_of x.engine.control))
     faults_are_counted = record {
@@ -119,6 +145,9 @@ module _ {M I C W O : Type 0} (media : MediaOutside M) (inputs : SourceOutside I
 
   pub cycles_of : (f : Finished M I C W O) → Played f → MakesItsCycles o f
   cycles_of f x = subst (MakesItsCycles o) (sym x.is) (makes_its_cycles f x)
+
+  pub input_of : (f : Finished M I C W O) → Played f → ReadsItsInput inputs (started_of media inputs sinks o) f
+  input_of f x = subst (ReadsItsInput inputs (started_of media inputs sinks o)) (sym x.is) (reads_its_input f x)
 
   pub takes_of : (f : Finished M I C W O) → Played f → LeavesTakes media inputs (started_of media inputs sinks o) (ended_of f)
   takes_of f x = subst (λ z. LeavesTakes media inputs (started_of media inputs sinks o) (ended_of z)) (sym x.is) x.takes

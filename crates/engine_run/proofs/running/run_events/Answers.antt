@@ -2,7 +2,7 @@ use Rattle.engine_end.specs.Takes.{LeavesTakes}
 use Rattle.engine_run.specs.Beginning.{started_of}
 use Rattle.engine_run.specs.Finished.{FaultsAreCounted, LeavesRings, SendsGenuine, ended_of}
 use Rattle.engine_run.specs.Lines.{GoesByItsLines}
-use Rattle.engine_run.specs.Mastered.{GetsTheMaster, MakesItsCycles}
+use Rattle.engine_run.specs.Mastered.{GetsTheMaster, MakesItsCycles, ReadsItsInput}
 use Rattle.engine_run.proofs.EndLemmas as ends
 use Rattle.engine_run.proofs.running.run_events.Goals as goal
 
@@ -21,6 +21,9 @@ returns-clause-master g c = λ tells told. ends.if_played (ends.Played g.M.Media
 
 pub returns-clause-cycles : goal.returns-clause-cycles
 returns-clause-cycles g c = ends.if_played (ends.Played g.M.Media.outside g.I.Source.outside g.C.Source.outside g.W.Sink.outside g.O.Sink.outside c.args.o c.requires c.args.events.now) (MakesItsCycles c.args.o) (ends.cycles_of g.M.Media.outside g.I.Source.outside g.C.Source.outside g.W.Sink.outside g.O.Sink.outside c.args.o c.requires c.args.events.now) c.play.result c.play.ensures.played
+
+pub returns-clause-input : goal.returns-clause-input
+returns-clause-input g c = ends.if_played (ends.Played g.M.Media.outside g.I.Source.outside g.C.Source.outside g.W.Sink.outside g.O.Sink.outside c.args.o c.requires c.args.events.now) (ReadsItsInput g.I.Source.outside (started_of g.M.Media.outside g.I.Source.outside g.W.Sink.outside c.args.o)) (ends.input_of g.M.Media.outside g.I.Source.outside g.C.Source.outside g.W.Sink.outside g.O.Sink.outside c.args.o c.requires c.args.events.now) c.play.result c.play.ensures.played
 
 pub returns-clause-takes : goal.returns-clause-takes
 returns-clause-takes g c = ends.if_played (ends.Played g.M.Media.outside g.I.Source.outside g.C.Source.outside g.W.Sink.outside g.O.Sink.outside c.args.o c.requires c.args.events.now) (λ f. LeavesTakes g.M.Media.outside g.I.Source.outside (started_of g.M.Media.outside g.I.Source.outside g.W.Sink.outside c.args.o) (ended_of f)) (ends.takes_of g.M.Media.outside g.I.Source.outside g.C.Source.outside g.W.Sink.outside g.O.Sink.outside c.args.o c.requires c.args.events.now) c.play.result c.play.ensures.played
