@@ -154,6 +154,7 @@ module _ {V : Type 0} where
   files_met media at e ours theirs others meet was = let kept = kept_met at.begun.session at e ours theirs others meet in record {
     others = was.others;
     same = was.same;
+    unwritten = was.unwritten;
     may_record = was.may_record;
     takes = λ records tells. let held = was.takes records tells in record {
       whole = λ fine. kept.takes (run_of at.begun) (media.files e.butler.media) (held.whole fine);

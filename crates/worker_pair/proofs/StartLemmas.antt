@@ -119,6 +119,7 @@ module _ {V I W : Type 0} (s : Session) (start : Start V I W) (may : MayBegin s 
     files_first = record {
       others = λ tells q other. ap (λ m. media.files m q) have.given.media_is;
       same = λ quiet. ap media.files have.given.media_is;
+      unwritten = λ quiet. have.given.no_write_failed;
       may_record = λ on tells. subst (MayRecord s (media.files start.media)) (sym (ap (λ l. l.opened) have.given.sources_is)) (may_record on tells);
       takes = λ on tells. record {
         whole = λ fine. subst (λ m. IsFlushed (tape_of (run_of begun) b.ends.takes.items) b.drain.files (media.files m)) (sym have.given.media_is)

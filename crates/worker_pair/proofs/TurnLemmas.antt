@@ -126,11 +126,18 @@ module _ {V : Type 0} (media : MediaOutside V) where
       only_reads : at.begun.records ≡ false → OnlyReads media e.butler.media b.media
       only_reads quiet = turn.rest.same (nothing_received quiet)
 
+      -- and there was none to be written
+      no_write_at : at.begun.records ≡ false → (given : Result Turn ButlerFault) → Answers at.begun.session e.edition 1 e.butler given b → is_write_fault given ≡ false
+      no_write_at quiet (Ok t) answers = refl
+      no_write_at quiet (Err ReadFault) answers = refl
+      no_write_at quiet (Err WriteFault) answers = absurd (omega (arith, answers.some, nothing_received quiet))
+
       -- what is so of the files
       files_turned : FilesStand media at.begun b
       files_turned = record {
         others = λ tells q other. turn.rest.others tells q other ∙ serves.files.others tells q other;
         same = λ quiet. (only_reads quiet).files ∙ serves.files.same quiet;
+        unwritten = λ quiet. turn.fails.write_failed ∙ ap (λ w. if w then true else e.butler.write_failed) (no_write_at quiet answer turn.answers) ∙ serves.files.unwritten quiet;
         may_record = λ records tells. subst (MayRecord at.begun.session at.begun.files) (sym turn.rest.sources) (serves.files.may_record records tells);
         takes = λ records tells. let held = serves.files.takes records tells in record {
           whole = λ fine. whole_at answer (turn.takes tells) held (sym turn.fails.write_failed ∙ fine);

@@ -29,6 +29,8 @@ pub record FilesStand {V : Type 0} (media : MediaOutside V) (begun : Begun) (b :
   pub others : media.tells → OtherFilesStand begun.session begun.files (media.files b.media)
   -- and none at all where nothing is to be recorded
   pub same : begun.records ≡ false → media.files b.media ≡ begun.files
+  -- so no write of them has failed
+  pub unwritten : begun.records ≡ false → b.write_failed ≡ false
   -- where tracks may be recorded, takes are held as they came
   pub may_record : begun.records ≡ true → media.tells → MayRecord begun.session begun.files b.sources.opened
   pub takes : begun.records ≡ true → media.tells → HoldsTakes media begun b
