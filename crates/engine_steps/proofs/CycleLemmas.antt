@@ -1,5 +1,5 @@
 -- The process of a run makes a cycle: what is so of the run then, whatever was answered, and it is the letter P.
-use Rattle.std.proofs.Common.{◌≡◌, inr, suc, [], ◌∷◌, ◌++◌, length, take, refl, sym, ap, subst, ◌∙◌}
+use Rattle.std.proofs.Common.{◌≡◌, inr, ℕ, suc, List, [], ◌∷◌, ◌++◌, length, take, refl, sym, ap, subst, ◌∙◌, arith}
 use Rattle.std.specs.Prelude.{true, false, ◌||◌, not, if◌then◌else◌, map, filter, Result, Ok, Err, OnOk}
 use Rattle.std.proofs.Math.Seq.{take-append_seam}
 use Rattle.std.proofs.lemmas.Bool.{false≢true, or_right}
@@ -9,6 +9,7 @@ use Rattle.session_model.specs.declared.session.Session.{Session}
 use Rattle.machine_model.specs.Events.{ToButler, ToControl, Capture, End, AckSend, after, is_recorded}
 use Rattle.machine_model.specs.Letters.{ends_cycle, gather_moves, track_places}
 use Rattle.machine_laws.proofs.EventLists.{after_append}
+use Rattle.input_blocks.specs.Rest.{StreamForm}
 use Rattle.input_blocks.specs.State.{InputState, IsCutShort, IsReadTo}
 use Rattle.master_blocks.specs.State.{MasterState}
 use Rattle.butler.specs.ButlerState.{ButlerState}
@@ -35,6 +36,11 @@ use Rattle.engine_steps.specs.UnderWay.{InputIsShort, IsInputOf, IsUnderWay}
 use Rattle.engine_steps.specs.Letters.{CycleIsP, GatheringIsG, GathersOn}
 use Rattle.engine_steps.proofs.GatherLemmas.{cycles_gathered, going, input_is_fine, master_is_fine, old_runs}
 use Rattle.engine_steps.proofs.KeepLemmas.{counted_more, items_met}
+
+-- all of a stream without frames was read
+all_read : {I : Type 0} (inputs : SourceOutside I) (start : List ℕ) (blocks : ℕ) (x : InputState I) → IsReadTo inputs (record { start = start; blocks = blocks }) x → x.stream.frames ≡ 0 →
+    x.done ≡ x.stream.frames
+all_read inputs start blocks x read none = omega (arith, read.done, none)
 
 module _ {V I W : Type 0} (media : MediaOutside V) (inputs : SourceOutside I) (sinks : SinkOutside W) (on : Started V I W) (old : Run V I W) (is : IsUnderWay media inputs sinks on old)
     (in_cycle : old.pair.in_cycle ≡ true) (played : old.pair.played ≡ length old.pair.playing.edits) (looked : HasLooked (playing_at (now_of on old)) old.pair.process) where
@@ -95,9 +101,15 @@ module _ {V I W : Type 0} (media : MediaOutside V) (inputs : SourceOutside I) (s
     shut : new.in_cycle ≡ false
     shut = ap (λ (p : Pair V I W). p.in_cycle) cycles.same
 
-    -- its stream and its blocks are those of the run
-    input_of : cycles.process.input.stream ≡ old.pair.process.input.stream → cycles.process.input.block ≡ old.pair.process.input.block → IsInputOf on new.process.input
-    input_of stream block = subst (IsInputOf on) (sym input_met) (record { stream = stream ∙ is.input.stream; block = block ∙ is.input.block })
+    -- its stream and its blocks are those of the run, and past its frames nothing was asked
+    input_of : cycles.process.input.stream ≡ old.pair.process.input.stream → cycles.process.input.block ≡ old.pair.process.input.block →
+        (old.pair.process.input.done ≡ old.pair.process.input.stream.frames → cycles.process.input.input ≡ old.pair.process.input.input) → IsInputOf on new.process.input
+    input_of stream block ended = subst (IsInputOf on) (sym input_met) (record {
+      stream = stream ∙ is.input.stream;
+      block = block ∙ is.input.block;
+      untouched = λ none. ended (all_read inputs on.begun.start (length old.pair.process.journal.items) old.pair.process.input runs.playing.read
+          (ap (λ (x : StreamForm). x.frames) is.input.stream ∙ none)) ∙ is.input.untouched none;
+    })
 
     -- ---- after a fault
 
@@ -170,7 +182,7 @@ module _ {V I W : Type 0} (media : MediaOutside V) (inputs : SourceOutside I) (s
         (subst (λ n. IsCounted (sinks.faults on.master) n old.failed.master) (sym cycles.writes.cause.kept) is.counts.masters);
     opened = opened new (Ok x) cycles;
     hears = hears;
-    input = input_of new (Ok x) cycles cycles.reads.stream cycles.reads.block;
+    input = input_of new (Ok x) cycles cycles.reads.stream cycles.reads.block cycles.reads.ended;
     mastered = λ fine. now.mastered refl;
     cut = λ bad. absurd (master_is_fine old.failed goes bad);
     input_short = λ bad. absurd (input_is_fine old.failed goes bad);
@@ -185,7 +197,7 @@ module _ {V I W : Type 0} (media : MediaOutside V) (inputs : SourceOutside I) (s
         (subst (λ (m : MasterState W). IsCounted (sinks.faults on.master) (sinks.faults m.sink) old.failed.master) (sym cycles.writes) is.counts.masters);
     opened = opened new (Err InputFault) cycles;
     hears = hears;
-    input = input_of new (Err InputFault) cycles cycles.reads.stream cycles.reads.block;
+    input = input_of new (Err InputFault) cycles cycles.reads.stream cycles.reads.block cycles.reads.ended;
     mastered = λ fine. mastered_still new (Err InputFault) cycles cycles.fault cycles.writes (is.mastered fine) (record old.failed { input = true });
     cut = λ bad. absurd (master_is_fine old.failed goes bad);
     input_short = λ bad. short new (Err InputFault) cycles cycles.fault (record old.failed { input = true }) cycles.reads.short;
@@ -200,7 +212,7 @@ module _ {V I W : Type 0} (media : MediaOutside V) (inputs : SourceOutside I) (s
         cycles.writes.cause.later cycles.writes.cause.rose is.counts.masters);
     opened = opened new (Err MasterFault) cycles;
     hears = hears;
-    input = input_of new (Err MasterFault) cycles cycles.reads.stream cycles.reads.block;
+    input = input_of new (Err MasterFault) cycles cycles.reads.stream cycles.reads.block cycles.reads.ended;
     mastered = λ fine. absurd (false≢true (sym fine));
     cut = λ bad. inr (cut_in_cycle new (Err MasterFault) cycles cycles.fault cycles.reads.place cycles.writes.front (record old.failed { master = true }));
     input_short = λ bad. absurd (input_is_fine old.failed goes bad);

@@ -76,7 +76,7 @@ module _ {V I W : Type 0} (media : MediaOutside V) (inputs : SourceOutside I) (s
 
   -- the input is that of the run,
   input_begun : IsInputOf on q.process.input
-  input_begun = subst (λ (z : Pair V I W). IsInputOf on z.process.input) (sym same) (record { stream = fresh.stream_is; block = fresh.runs.playing.frames })
+  input_begun = subst (λ (z : Pair V I W). IsInputOf on z.process.input) (sym same) (record { stream = fresh.stream_is; block = fresh.runs.playing.frames; untouched = λ none. fresh.input_is })
 
   -- and what was captured is of one sound
   hears_begun : HearsInput inputs (at_first on.begun) q

@@ -35,6 +35,8 @@ module _ {V I W : Type 0} where
   pub record IsInputOf (on : Started V I W) (x : InputState I) : Type 0 where
     pub stream : x.stream ≡ on.stream
     pub block : x.block ≡ on.begun.session.block
+    -- a stream that has no frames is asked for nothing
+    pub untouched : on.stream.frames ≡ 0 → x.input ≡ on.input
 
   -- A read of the input failed: it had given the blocks of the entries, and lost less than one more.
   pub record InputIsShort (inputs : SourceOutside I) (on : Started V I W) (r : Run V I W) : Type 0 where
