@@ -127,6 +127,7 @@ module _ {V I W : Type 0} (media : MediaOutside V) (inputs : SourceOutside I) (s
         in_part = λ recording tells failed. subst (λ (j : Listed made.Entry). AreTakesInPart (recorded_of on.begun is.hears.input) (seen_entries j.items) (media.files ended.media)) (sym parted.journal)
             (takes_in_part recording tells failed);
         same = λ quiet. ap media.files (parted.quiet (same ∙ quiet)).0 ∙ closed.last.serves.files.same quiet;
+        unwritten = λ quiet. (parted.quiet (same ∙ quiet)).1 ∙ sym closed.last.butler_writes ∙ closed.last.serves.files.unwritten quiet;
       }
 
     module _ (run_of : Recorded) (records : Bool) (ended : Ended V I W) (parted : IsParted media run_of records c ended) where

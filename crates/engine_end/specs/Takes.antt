@@ -29,3 +29,5 @@ pub record LeavesTakes {V I W : Type 0} (media : MediaOutside V) (inputs : Sourc
       AreTakesInPart (recorded_of on.begun input) (seen_entries ended.journal.items) (media.files ended.media)
   -- else no file has changed
   pub same : on.begun.records ≡ false → media.files ended.media ≡ on.begun.files
+  -- and no write of them has failed
+  pub unwritten : on.begun.records ≡ false → ended.failed.write ≡ false
