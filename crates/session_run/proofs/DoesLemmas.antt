@@ -5,13 +5,13 @@ use Rattle.ses_io.specs.Outside.{MediaOutside, SinkOutside, OnlyReads}
 use Rattle.ses_io.specs.declared.world.World.{World}
 use Rattle.cycle_journal.specs.declared.status.Status.{Status}
 use Rattle.cycle_journal.specs.declared.status.Status.TheVariants.{Done, Usage, MasterFault, OutFault, ReadFault}
-use Rattle.engine_core.specs.Passed.{AllStayOpen}
 use Rattle.session_opening.specs.Answers.{Caused, Refuses}
 use Rattle.session_opening.specs.Plan.{plan_of_export}
 use Rattle.session_opening.specs.Words.{Command, Export, Render, ToExport, ToMigrate, ToCheck, ToRender}
 use Rattle.session_opening.specs.declared.unopened.Unopened.{Unopened}
 use Rattle.session_run.specs.declared.outcome.Outcome.{Outcome}
 use Rattle.session_run.specs.Carried.{CarriesOut}
+use Rattle.session_run.specs.Exported.{AllStayOpen}
 use Rattle.session_run.specs.Headline.{EndsAsAsked, LeavesTheMaster, MasterIsAsAsked, PlaysAnExport}
 use Rattle.session_run.specs.Rendered.{GetsTheRender}
 use Rattle.session_run.specs.Replied.{IsOwnText, WritesItsOwn}

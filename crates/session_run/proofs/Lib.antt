@@ -1,6 +1,7 @@
 -- The lemmas of the top call.
 pub mod SoundLemmas
 pub mod StatusLemmas
+pub mod LeftLemmas
 pub mod PlayedLemmas
 pub mod OutLemmas
 pub mod DoesLemmas

@@ -17,14 +17,13 @@ use Rattle.cycle_journal.specs.declared.entry.Entry.{Entry}
 use Rattle.cycle_journal.specs.declared.status.Status.{Status}
 use Rattle.cycle_journal.specs.declared.status.Status.TheVariants.{Done, MasterFault, ReadFault}
 use Rattle.cycle_journal.specs.JournalView.{seen_entries}
-use Rattle.disk_ring.specs.Rings.{Whole}
+use Rattle.disk_ring.specs.Rings.{Joined, Whole}
 use Rattle.run_world.specs.declared.finished.Finished.{Finished}
 use Rattle.run_rings.specs.declared.joining.TrackRings.{TrackRings}
-use Rattle.engine_core.specs.Events.{KeepsTheRest, journal_of}
-use Rattle.engine_core.specs.Playing.{IsPlayedOut}
-use Rattle.engine_core.specs.Passed.{AllGenuine, AllStayOpen, PassedOn}
-use Rattle.engine_core.specs.Asked.{IsCounted}
-use Rattle.engine_core.specs.Written.{IsCutOff}
+use Rattle.piece_item.specs.declared.ack.Ack.{Ack}
+use Rattle.engine_end.specs.Passed.{AllGenuine, IsToldToControl, PassedOn}
+use Rattle.engine_run.specs.Finished.{journal_of}
+use Rattle.engine_run.specs.Mastered.{IsCutOff}
 use Rattle.session_opening.specs.Answers.{Caused, HasHeads, Refuses, plan_from}
 use Rattle.session_opening.specs.Plan.{Open, Plan, Wrong}
 use Rattle.session_opening.specs.Words.{Export}
@@ -32,8 +31,9 @@ use Rattle.session_opening.specs.declared.loading.Loaded.{Loaded}
 use Rattle.session_opening.specs.declared.unopened.Unopened.{Unopened}
 use Rattle.session_opening.specs.declared.unopened.Unopened.TheVariants as failed
 use Rattle.session_run.specs.declared.outcome.Outcome.{Outcome}
-use Rattle.session_run.specs.Exported.{IsStill, WherePlayed, IsRun, IsExport, IsOfSome, edits_of, exported, sounds_in}
+use Rattle.session_run.specs.Exported.{AllStayOpen, IsStill, WherePlayed, IsRun, IsExport, IsOfSome, edits_of, exported, sounds_in}
 use Rattle.session_run.specs.Status.{HasPlayed, IsOfExport, ReadsFailed, WritesFailed, EndsWith, status_at_end, status_of}
+use Rattle.session_run.proofs.LeftLemmas.{IsLeft, KeepsTheRest}
 use Rattle.session_run.proofs.SoundLemmas.{sounds_are}
 use Rattle.session_run.proofs.StatusLemmas as status
 
@@ -125,7 +125,7 @@ module _ {M I C W O : Type 0} (outside : MediaOutside M) (sink : SinkOutside W) 
     rest = record { input = d.rest.input; control = d.rest.control; out = d.rest.out };
   } where
     run_before : (p : Plan) (es : List engine.Entry) → IsRun sink (record old { media = media }) new p es → IsRun sink old new p es
-    run_before p es r = record { lawful = r.lawful; most = r.most; all = r.all; rings = r.rings; plainly = r.plainly }
+    run_before p es r = record { lawful = r.lawful; most = r.most; all = r.all; rings = r.rings; acks = r.acks; plainly = r.plainly }
 
     before : (p : Plan) (es : List engine.Entry) → IsExport outside sink (record old { media = media }) new p es → IsExport outside sink old new p es
     before p es e = record {
@@ -140,14 +140,12 @@ module _ {M I C W O : Type 0} (outside : MediaOutside M) (sink : SinkOutside W) 
 
   -- a run that plays
   module _ (e : Export) (x : Loaded) (old : World M I C W O) (valid : IsValid x.edition.session) (heads : outside.tells → HasHeads (outside.files old.media) x) (f : Finished M I C W O)
-      (leaves : IsPlayedOut x.edition.session e.from e.cycles f.edits.items (journal_of f) f.rings.items f.faults)
+      (leaves : IsLeft outside sink old x.edition.session e.from e.cycles f)
       (genuine : outside.tells → AllGenuine (source_sound (outside.files old.media) x.sources.opened) x.edition.session f.edits.items f.rings.items)
       (master : outside.tells → sink.tells → f.faults.master ≡ false → sink.held f.world.master ≡ sink.held old.master ++ master_file x.edition.session f.edits.items
       (samples_of (source_sound (outside.files old.media) x.sources.opened) x.edition.session f.edits.items) e.cycles (journal_of f))
       (front : outside.tells → sink.tells → f.faults.master ≡ true → IsCutOff (sink.held old.master) (sink.held f.world.master) x.edition.session f.edits.items
       (samples_of (source_sound (outside.files old.media) x.sources.opened) x.edition.session f.edits.items) e.cycles (journal_of f))
-      (whole : Whole f.acks) (counted : IsCounted (outside.read_faults old.media) (outside.read_faults f.world.media) f.faults.read) (noted : IsCounted (sink.faults old.master) (sink.faults f.world.master) f.faults.master)
-      (only : OnlyReads outside old.media f.world.media) (rest : KeepsTheRest old f.world)
       (new : Outcome M I C W O) (status_is : new.status ≡ status_at_end f.faults) (world_is : new.world ≡ f.world) (journal_is : new.journal ≡ Some f.journal) (rings_are : new.rings ≡ f.rings) (acks_are : new.acks ≡ Some f.acks) where
     abbrev o : Plan
     o = plan_from e x
@@ -165,7 +163,7 @@ module _ {M I C W O : Type 0} (outside : MediaOutside M) (sink : SinkOutside W) 
     media_is = ap (λ (w : World M I C W O). outside.read_faults w.media) world_is
 
     fine : IsStill (sink.faults old.master) (sink.faults new.world.master) → f.faults.master ≡ false
-    fine still = status.no_rise (sink.faults old.master) (sink.faults f.world.master) f.faults.master noted (record { same = sym master_is ∙ still.same; short = still.short })
+    fine still = status.no_rise (sink.faults old.master) (sink.faults f.world.master) f.faults.master leaves.writes (record { same = sym master_is ∙ still.same; short = still.short })
 
     run : IsRun sink old new o (journal_of f)
     run = record {
@@ -188,7 +186,7 @@ module _ {M I C W O : Type 0} (outside : MediaOutside M) (sink : SinkOutside W) 
       cut_off = λ u rose. subst (λ es. IsCutOff first now x.edition.session es (samples_of (sounds_in (outside.files old.media) x.edition.session) x.edition.session es) e.cycles (journal_of f))
           leaves.edits_are (subst (λ (h : Sounds). IsCutOff first now x.edition.session f.edits.items (samples_of h x.edition.session f.edits.items) e.cycles (journal_of f)) sounds
           (subst (λ (w : World M I C W O). IsCutOff first (sink.held w.master) x.edition.session f.edits.items (samples_of (source_sound (outside.files old.media) x.sources.opened) x.edition.session f.edits.items) e.cycles (journal_of f)) (sym world_is)
-          (front t u (status.some_rise (sink.faults old.master) (sink.faults f.world.master) f.faults.master noted (omega (arith, rose, master_is))))));
+          (front t u (status.some_rise (sink.faults old.master) (sink.faults f.world.master) f.faults.master leaves.writes (omega (arith, rose, master_is))))));
     }
 
     of_export_by : (new.status ≡ Done) ⊎ ((new.status ≡ MasterFault) ⊎ (new.status ≡ ReadFault)) → IsOfExport new.status
@@ -203,20 +201,20 @@ module _ {M I C W O : Type 0} (outside : MediaOutside M) (sink : SinkOutside W) 
       export = λ t. subst (λ j. WherePlayed plan j (IsExport outside sink old new)) (sym journal_is) (export t);
       alone = let P : Option (Listed Entry) → Type 0 = λ o. IfSome o (λ j. IsOfSome sink old new e (seen_entries j.items)) in
           subst P (sym journal_is) (record { session = x.edition.session; valid = valid; run = run });
-      reads = subst (λ n. ReadsFailed (outside.read_faults old.media) n new.status) (sym media_is) (status.reads_of f.faults.read f.faults.master new.status of (outside.read_faults old.media) (outside.read_faults f.world.media) counted);
-      writes = subst (λ n. WritesFailed MasterFault (sink.faults old.master) n new.status) (sym master_is) (status.writes_of f.faults.read f.faults.master new.status of (sink.faults old.master) (sink.faults f.world.master) noted);
-      still_open = λ still. subst (λ l. AllStayOpen l.items) (sym rings_are) (leaves.still_open (status.no_rise (outside.read_faults old.media) (outside.read_faults f.world.media) f.faults.read counted
+      reads = subst (λ n. ReadsFailed (outside.read_faults old.media) n new.status) (sym media_is) (status.reads_of f.faults.read f.faults.master new.status of (outside.read_faults old.media) (outside.read_faults f.world.media) leaves.reads);
+      writes = subst (λ n. WritesFailed MasterFault (sink.faults old.master) n new.status) (sym master_is) (status.writes_of f.faults.read f.faults.master new.status of (sink.faults old.master) (sink.faults f.world.master) leaves.writes);
+      still_open = λ still. subst (λ l. AllStayOpen l.items) (sym rings_are) (leaves.still_open (status.no_rise (outside.read_faults old.media) (outside.read_faults f.world.media) f.faults.read leaves.reads
           (record { same = sym media_is ∙ still.same; short = still.short })));
       played = record {
         only = λ some. status.played_status f.faults.read f.faults.master new.status of;
         done = λ done. subst IsSome (sym journal_is) refl;
         master = λ fault. subst IsSome (sym journal_is) refl;
         acknowledged = λ some. subst IsSome (sym acks_are) refl;
-        acks = subst (λ a. IfSome a Whole) (sym acks_are) whole;
+        acks = subst (λ a. IfSome a Whole) (sym acks_are) leaves.acks.whole;
         nothing = λ none. absurd (true≢false (sym (subst IsSome (sym journal_is ∙ none) refl)));
       };
-      only_reads = record { files = ap (λ (w : World M I C W O). outside.files w.media) world_is ∙ only.files; other_count = ap (λ (w : World M I C W O). outside.write_faults w.media) world_is ∙ only.other_count };
-      rest = subst (KeepsTheRest old) (sym world_is) rest;
+      only_reads = record { files = ap (λ (w : World M I C W O). outside.files w.media) world_is ∙ leaves.only_reads.files; other_count = ap (λ (w : World M I C W O). outside.write_faults w.media) world_is ∙ leaves.only_reads.other_count };
+      rest = subst (KeepsTheRest old) (sym world_is) leaves.rest;
     } where
       by : (new.status ≡ Done) ⊎ ((new.status ≡ MasterFault) ⊎ (new.status ≡ ReadFault)) → EndsWith MasterFault plan new.status
       by (inl done) = inl done

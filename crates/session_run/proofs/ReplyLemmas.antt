@@ -32,7 +32,7 @@ module _ {M I C W O : Type 0} (media : MediaOutside M) (master : SinkOutside W) 
   -- ---- what doesn't speak of out stays
 
   run_same : (p : Plan) (es : List engine.Entry) → IsRun master old ended p es → IsRun master old new p es
-  run_same p es r = record { lawful = r.lawful; most = r.most; all = r.all; rings = r.rings; plainly = r.plainly }
+  run_same p es r = record { lawful = r.lawful; most = r.most; all = r.all; rings = r.rings; acks = r.acks; plainly = r.plainly }
 
   export_same : (p : Plan) (es : List engine.Entry) → IsExport media master old ended p es → IsExport media master old new p es
   export_same p es e = record { run = run_same p es e.run; genuine = e.genuine; written = e.written; cut_off = e.cut_off }

@@ -7,7 +7,8 @@ use Rattle.ses_io.specs.Outside.{MediaOutside}
 use Rattle.cycle_journal.specs.declared.status.Status.{Status}
 use Rattle.cycle_journal.specs.declared.status.Status.TheVariants.{Done, Usage, MasterFault, OutFault, NoMemory}
 use Rattle.cycle_journal.specs.declared.status.Status.TheVariants as status
-use Rattle.engine_core.specs.Asked.{IsCounted, only_noted}
+use Rattle.run_world.specs.declared.finished.Faults.{Faults}
+use Rattle.engine_steps.specs.Failed.{IsCounted}
 use Rattle.session_opening.specs.Answers.{Caused, Refuses, unopened as opening}
 use Rattle.session_opening.specs.Plan.{Open}
 use Rattle.session_opening.specs.Words.{Command, ToExport, ToMigrate, ToCheck, ToRender}
@@ -120,6 +121,10 @@ usage_only (Some (ToRender r)) s is = (λ usage. absurd (render_not_usage s is u
 usage_only None s is = (λ usage. refl, λ none. is)
 
 -- ---- an export that is played
+
+-- nothing failed but, perhaps, a read of the media and a write of the master
+abbrev pub only_noted : Bool → Bool → Faults
+only_noted read master = record { input = false; master = master; read = read; write = false; control = false; long = false; out = false; memory = false }
 
 -- what is noted of reads and of the master says which status it is
 pub record IsOf (read master : Bool) (s : Status) : Type 0 where

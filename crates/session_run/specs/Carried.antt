@@ -3,10 +3,9 @@ use Rattle.std.specs.Prelude.{◌≡◌, Option}
 use Rattle.ses_io.specs.Outside.{MediaOutside, SinkOutside, OnlyReads}
 use Rattle.ses_io.specs.declared.world.World.{World}
 use Rattle.cycle_journal.specs.declared.status.Status.TheVariants.{MasterFault, OutFault}
-use Rattle.engine_core.specs.Passed.{AllStayOpen}
 use Rattle.session_opening.specs.Words.{Command}
 use Rattle.session_run.specs.declared.outcome.Outcome.{Outcome}
-use Rattle.session_run.specs.Exported.{IsStill}
+use Rattle.session_run.specs.Exported.{AllStayOpen, IsStill}
 use Rattle.session_run.specs.Headline.{EndsAsAsked, LeavesTheMaster, MasterIsAsAsked, PlaysAnExport}
 use Rattle.session_run.specs.Replied.{IsOwnText, WritesItsOwn}
 use Rattle.session_run.specs.Status.{IsStatusOf, PlaysAsAsked, ReadsFailed, WritesFailed}

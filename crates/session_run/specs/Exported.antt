@@ -1,5 +1,5 @@
 -- What is so of an export that was played, from the bytes of its files to those of its master.
-use Rattle.std.specs.Prelude.{◌≡◌, ℕ, ◌-◌, ◌^◌, ◌<◌, ◌≤◌, ℤ, pos, true, List, ◌++◌, length, Option, Some, None, Result, Ok, Err, slice_get}
+use Rattle.std.specs.Prelude.{◌≡◌, ℕ, ◌-◌, ◌^◌, ◌<◌, ◌≤◌, ℤ, pos, true, false, List, ◌++◌, length, Option, Some, None, IfSome, Result, Ok, Err, slice_get}
 use Rattle.sound_model.specs.Regions.{Sounds}
 use Rattle.sound_model.specs.Wav.{file_sound}
 use Rattle.ses_io.specs.Files.{Files, content}
@@ -17,8 +17,9 @@ use Rattle.engine_model.specs.Played.{master_file, samples_of}
 use Rattle.cycle_journal.specs.declared.entry.Entry.{Entry}
 use Rattle.cycle_journal.specs.declared.status.Status.TheVariants.{Done}
 use Rattle.cycle_journal.specs.JournalView.{seen_entries}
-use Rattle.engine_core.specs.Passed.{PassedOn, AllGenuine}
-use Rattle.engine_core.specs.Written.{IsCutOff}
+use Rattle.run_rings.specs.declared.joining.TrackRings.{TrackRings}
+use Rattle.engine_end.specs.Passed.{AllGenuine, IsToldToControl, PassedOn}
+use Rattle.engine_run.specs.Mastered.{IsCutOff}
 use Rattle.session_opening.specs.Plan.{Plan, Wrong}
 use Rattle.session_opening.specs.Words.{Export}
 use Rattle.session_run.specs.declared.outcome.Outcome.{Outcome}
@@ -27,6 +28,10 @@ use Rattle.session_run.specs.declared.outcome.Outcome.{Outcome}
 pub record IsStill (before now : ℕ) : Type 0 where
   pub same : now ≡ before
   pub short : before < 2 ^ 64 - 1
+
+-- no ring of items was closed
+abbrev pub AllStayOpen : List TrackRings → Type 0
+AllStayOpen rings = (t : ℕ) (r : TrackRings) → slice_get rings t ≡ Some r → r.plays.closed ≡ false
 
 -- ---- what is meant
 
@@ -62,8 +67,10 @@ module _ {M I C W O : Type 0} where
     -- there is an entry for each cycle, fewer only where the master's count of faults rose
     pub most : length journal ≤ p.cycles
     pub all : IsStill (master.faults old.master) (master.faults new.world.master) → length journal ≡ p.cycles
-    -- the rings of each track are ordered, and what the journal says of them is true
+    -- the rings of each track are ordered, what the journal says of them is true, and it is made of what they passed on
     pub rings : PassedOn p.session (edits_of p) journal new.rings.items
+    -- each entry was acknowledged to control, or found that ring full
+    pub acks : IfSome new.acks (IsToldToControl p.session (edits_of p) journal)
     -- at Done each cycle rolls, hears the newest playlists, and is settled
     pub plainly : new.status ≡ Done → journal ≡ plain p.session p.cycles (export_commands p.from)
 

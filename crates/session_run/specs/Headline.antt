@@ -6,12 +6,11 @@ use Rattle.ses_io.specs.declared.world.World.{World}
 use Rattle.cycle_journal.specs.declared.status.Status.{Status}
 use Rattle.cycle_journal.specs.declared.status.Status.TheVariants.{Done, Usage, MasterFault, OutFault, NoMemory}
 use Rattle.cycle_journal.specs.JournalView.{seen_entries}
-use Rattle.engine_core.specs.Passed.{AllStayOpen}
 use Rattle.session_opening.specs.Plan.{plan_of_export, read_session, session_plan}
 use Rattle.session_opening.specs.Spoken.{texts}
 use Rattle.session_opening.specs.Words.{Command, ToExport, ToMigrate, ToCheck, ToRender, command}
 use Rattle.session_run.specs.declared.outcome.Outcome.{Outcome}
-use Rattle.session_run.specs.Exported.{IsStill, WherePlayed, IsExport, IsOfSome}
+use Rattle.session_run.specs.Exported.{AllStayOpen, IsStill, WherePlayed, IsExport, IsOfSome}
 use Rattle.session_run.specs.Rendered.{GetsTheRender}
 use Rattle.session_run.specs.Replied.{IsOwnText, Replies}
 use Rattle.session_run.specs.Status.{EndsWith, IsStatusOf, PlaysAsAsked, ReadsFailed, WritesFailed, RepliesFailed}
