@@ -1,5 +1,0 @@
-use Rattle.engine_pair.specs.Begun.{served_at}
-use Rattle.engine_pair.proofs.ending.Ending.turn.Given as goal
-
-abbrev pub ghost-turn : goal.ghost-turn
-ghost-turn g a = served_at g.at

@@ -1,5 +1,0 @@
-use Rattle.engine_pair.specs.Begun.{playing_at}
-use Rattle.engine_pair.proofs.pair.Pair.begin.Given as goal
-
-abbrev pub ghost-begin : goal.ghost-begin
-ghost-begin g a = playing_at g.at

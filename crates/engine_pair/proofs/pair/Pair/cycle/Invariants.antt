@@ -1,8 +1,0 @@
-use Rattle.engine_pair.specs.Begun.{playing_at}
-use Rattle.engine_pair.proofs.pair.Pair.cycle.Given as goal
-
-abbrev pub ghost-cycle : goal.ghost-cycle
-ghost-cycle g a = playing_at g.at
-
-abbrev pub ghost-meet : goal.ghost-meet
-ghost-meet g a = playing_at g.at

@@ -1,8 +1,0 @@
-use Rattle.engine_pair.specs.Begun.{looked, playing_at}
-use Rattle.engine_pair.proofs.pair.Pair.look.Given as goal
-
-abbrev pub ghost-gather : goal.ghost-gather
-ghost-gather g a = playing_at g.at
-
-abbrev pub ghost-meet : goal.ghost-meet
-ghost-meet g a = playing_at (looked a.self.edition.edits g.at)

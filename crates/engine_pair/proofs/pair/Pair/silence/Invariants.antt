@@ -1,4 +1,0 @@
-use Rattle.engine_pair.proofs.pair.Pair.silence.Given as goal
-
-abbrev pub ghost-silence : goal.ghost-silence
-ghost-silence g a = g.at.begun.session
