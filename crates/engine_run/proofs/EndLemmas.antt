@@ -22,7 +22,7 @@ use Rattle.run_world.specs.declared.opened.Script.{Script}
 use Rattle.engine_run.specs.Beginning.{MayRun, control_of, course_of, started_of}
 use Rattle.engine_run.specs.Finished.{FaultsAreCounted, LeavesRings, SendsGenuine, ended_of, finished_of}
 use Rattle.engine_run.specs.Lines.{GoesByItsLines}
-use Rattle.engine_run.specs.Mastered.{GetsTheMaster, MakesItsCycles, ReadsItsInput}
+use Rattle.engine_run.specs.Mastered.{GetsAFront, GetsTheMaster, MakesItsCycles, ReadsItsInput}
 use Rattle.engine_run.specs.Played.{IsPlayed}
 use Rattle.engine_run.proofs.AnswerLemmas.{ControlIsCounted, control_counted}
 use Rattle.engine_run.proofs.LinesLemmas as lines
@@ -142,6 +142,9 @@ module _ {M I C W O : Type 0} (media : MediaOutside M) (inputs : SourceOutside I
 
   pub master_of : TheMasterIsItsBlocks → media.tells → sinks.tells → (f : Finished M I C W O) → Played f → GetsTheMaster media sinks o f
   master_of law tells told f x = subst (GetsTheMaster media sinks o) (sym x.is) (gets_the_master f x law tells told)
+
+  pub front_of : media.tells → sinks.tells → (f : Finished M I C W O) → Played f → GetsAFront media sinks o f
+  front_of tells told f x = subst (GetsAFront media sinks o) (sym x.is) (λ bad. master.is_cut_off media inputs source sinks sink on f x tells told bad)
 
   pub cycles_of : (f : Finished M I C W O) → Played f → MakesItsCycles o f
   cycles_of f x = subst (MakesItsCycles o) (sym x.is) (makes_its_cycles f x)

@@ -4,5 +4,6 @@ pub mod LastLemmas
 pub mod AnswerLemmas
 pub mod LinesLemmas
 pub mod ReceivedLemmas
+pub mod CutLemmas
 pub mod MasteredLemmas
 pub mod EndLemmas

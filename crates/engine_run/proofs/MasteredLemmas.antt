@@ -1,6 +1,6 @@
 -- What the master of a run that was played holds, and how many cycles were made.
-use Rattle.std.proofs.Common.{◌≡◌, ℕ, zero, suc, ◌+◌, ◌-◌, ◌≤◌, List, ◌++◌, length, refl, sym, ap, subst, ◌∙◌, arith}
-use Rattle.std.specs.Prelude.{Bool, true, false, ◌||◌, if◌then◌else◌, nat_le, drop}
+use Rattle.std.proofs.Common.{◌≡◌, inl, inr, ℕ, zero, suc, ◌+◌, ◌-◌, ◌≤◌, List, ◌++◌, length, refl, sym, ap, subst, ◌∙◌, arith}
+use Rattle.std.specs.Prelude.{◌⊎◌, Bool, true, false, ◌||◌, if◌then◌else◌, nat_le, drop}
 use Rattle.std.specs.List.{flat_map}
 use Rattle.std.proofs.lemmas.Bool.{leb-true, true≢false}
 use Rattle.std.proofs.lemmas.List.{append_assoc, length-append, length-map, take-append-drop}
@@ -19,7 +19,7 @@ use Rattle.cycle_journal.specs.declared.entry.Entry.{Entry}
 use Rattle.cycle_journal.specs.JournalView.{seen_entries, seen_entry}
 use Rattle.master_blocks.specs.Bytes.{end_bytes, entry_bytes, head_bytes}
 use Rattle.master_blocks.specs.Laws.{TheMasterIsItsBlocks}
-use Rattle.process_cycle.specs.ProcessState.{items_of}
+use Rattle.process_cycle.specs.ProcessState.{Playing, ProcessState, items_of, kinds_of}
 use Rattle.process_cycle.specs.Promised.{AllOfTrack}
 use Rattle.run_world.specs.declared.finished.Finished.{Finished}
 use Rattle.worker_pair.specs.declared.pair.Pair.{Pair}
@@ -29,8 +29,26 @@ use Rattle.engine_steps.specs.Failed.{has_stopped}
 use Rattle.engine_steps.specs.Started.{now_of}
 use Rattle.engine_letters.specs.Events.{Course}
 use Rattle.engine_letters.specs.Shows.{edits_of}
+use Rattle.ses_io.specs.Streams.{AppendsSome}
+use Rattle.engine_laws.specs.JournalInvariant.{AreOrdered}
+use Rattle.engine_letters.proofs.LawfulLemmas.{ordered}
+use Rattle.engine_run.specs.Mastered.{IsCutOff, bytes_made}
+use Rattle.engine_run.proofs.CutLemmas.{holds_made, next_in_part}
+use Rattle.engine_steps.specs.Mastered.{IsCutAtEnd, IsCutAtHead, IsCutInCycle}
+use Rattle.worker_pair.specs.Begun.{playing_at}
+use Rattle.audio_source.specs.Opened.{OpenedSource}
 use Rattle.engine_run.specs.Played.{IsPlayed}
 use Rattle.engine_run.proofs.ReceivedLemmas.{of_tracks}
+
+-- what a run leaves of which the master is made
+record Left : Type 0 where
+  pub edits : List Edit
+  pub opened : List OpenedSource
+  pub room : ℕ
+  pub journal : List Entry
+
+abbrev left_of : List Edit → List OpenedSource → ℕ → List Entry → Left
+left_of edits opened room journal = record { edits = edits; opened = opened; room = room; journal = journal }
 
 -- ---- quits
 
@@ -170,3 +188,71 @@ module _ {M I C W O : Type 0} (media : MediaOutside M) (inputs : SourceOutside I
 
             room_path : written.pair.process.journal.room ≡ on.opening.cycles
             room_path = ap (λ (j : Listed Entry). j.room) journal_path ∙ room_is
+
+  -- ---- where a write of it has failed
+
+  module _ (tells : media.tells) (told : sinks.tells) (bad : x.ended.failed.master ≡ true) where
+    abbrev p : ProcessState I W
+    p = written.pair.process
+
+    abbrev at : Playing
+    at = playing_at (now_of on.opening.started written)
+
+    -- the edits that came since the process looked last
+    abbrev since : List Edit
+    since = drop written.pair.played written.pair.edition.edits
+
+    abbrev heard : Sounds
+    heard = source_sound on.opening.started.begun.files written.pair.butler.sources.opened
+
+    abbrev all_edits : List Edit
+    all_edits = at.edits ++ since
+
+    abbrev samples_so : Samples
+    samples_so = samples_of heard s all_edits
+
+    whole : all_edits ≡ written.pair.edition.edits
+    whole = take-append-drop written.pair.played written.pair.edition.edits
+
+    all_received : AllOfTrack s all_edits samples_so (items_of p)
+    all_received = subst (λ es. AllOfTrack s es (samples_of heard s es) (items_of p)) (sym whole) (of_tracks media (now_of on.opening.started written) written.pair x.written.is_written.rests.serves tells)
+
+    all_ordered : AreOrdered s all_edits (kinds_of p)
+    all_ordered = subst (λ es. AreOrdered s es (kinds_of p)) (sym whole) (ordered media (now_of on.opening.started written) written.pair x.written.is_written.rests)
+
+    abbrev CutOff : Type 0
+    CutOff = IsCutOff at.before (sinks.held p.master.sink) s all_edits samples_so p.journal.room (seen_entries p.journal.items)
+
+    by_cut : (IsCutAtHead inputs sinks on.opening.started.begun p ⊎ IsCutInCycle inputs sinks at p) ⊎ IsCutAtEnd sinks at p → CutOff
+    by_cut (inl (inl c)) = inl (ap seen_entries c.none, c.front told)
+    by_cut (inl (inr c)) = inr (inl (next_in_part inputs sinks at since samples_so p c all_received all_ordered at.before (holds_made inputs sinks at since samples_so told c.before before
+        (c.mastered told since heard before)) told))
+      where
+        before : AllOfTrack s all_edits samples_so (items_of c.before)
+        before = subst (AllOfTrack s all_edits samples_so) c.items all_received
+    by_cut (inr c) = inr (inr (subst (λ l. AppendsSome l (sinks.held p.master.sink) (end_bytes s p.journal.room (length (seen_entries p.journal.items)))) holds
+        (subst (λ n. AppendsSome (sinks.held c.before.master.sink) (sinks.held p.master.sink) (end_bytes s p.journal.room n)) (sym (length-map p.journal.items seen_entry)) (c.front told))))
+      where
+        before : AllOfTrack s all_edits samples_so (items_of c.before)
+        before = subst (AllOfTrack s all_edits samples_so) (ap (λ (z : ProcessState I W). items_of z) c.same) all_received
+
+        holds : sinks.held c.before.master.sink ≡ at.before ++ bytes_made s all_edits samples_so p.journal.room (seen_entries p.journal.items)
+        holds = holds_made inputs sinks at since samples_so told c.before before (c.mastered told since heard before)
+            ∙ ap (λ (z : ProcessState I W). at.before ++ bytes_made s all_edits samples_so z.journal.room (seen_entries z.journal.items)) (sym c.same)
+
+    -- **it is cut off**
+    pub is_cut_off : IsCutOff on.opening.started.begun.before (sinks.held x.ended.master) s x.ended.edits.items
+        (samples_of (source_sound on.opening.started.begun.files on.opening.started.opened) s x.ended.edits.items) on.opening.cycles (seen_entries x.ended.journal.items)
+    is_cut_off = subst (λ now. IsCutOff on.opening.started.begun.before now s x.ended.edits.items (samples_of (source_sound on.opening.started.begun.files on.opening.started.opened) s x.ended.edits.items)
+        on.opening.cycles (seen_entries x.ended.journal.items)) (ap sinks.held (sym x.written.master))
+        (subst (λ (z : Left). IsCutOff on.opening.started.begun.before (sinks.held p.master.sink) s z.edits (samples_of (source_sound on.opening.started.begun.files z.opened) s z.edits) z.room (seen_entries z.journal))
+        paths (by_cut (x.written.is_written.cut (sym x.written.master_failed ∙ bad))))
+      where
+        journal_path : p.journal ≡ x.ended.journal
+        journal_path = ap (λ (z : Pair M I W). z.process.journal) x.written.is_written.only ∙ sym x.written.journal
+
+        -- all that the run has is what is left
+        paths : left_of all_edits written.pair.butler.sources.opened p.journal.room p.journal.items ≡ left_of x.ended.edits.items on.opening.started.opened on.opening.cycles x.ended.journal.items
+        paths = λ i. left_of ((whole ∙ ap (λ (z : Pair M I W). z.edition.edits) x.written.is_written.only ∙ sym x.written.edits) i)
+            ((ap (λ (z : Pair M I W). z.butler.sources.opened) x.written.is_written.only ∙ x.going.may.under_way.opened) i)
+            ((ap (λ (j : Listed Entry). j.room) journal_path ∙ room_is) i) ((ap (λ (j : Listed Entry). j.items) journal_path) i)

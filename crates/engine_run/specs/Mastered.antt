@@ -1,9 +1,16 @@
 -- What the master and the input of a run hold at its end.
-use Rattle.std.specs.Prelude.{◌≡◌, ◌≤◌, true, false, ◌++◌, length}
+use Rattle.std.specs.Prelude.{◌≡◌, ◌⊎◌, ℕ, ◌≤◌, true, false, List, [], ◌∷◌, ◌++◌, length}
+use Rattle.std.specs.List.{flat_map}
 use Rattle.ses_io.specs.Outside.{MediaOutside, SourceOutside, SinkOutside}
+use Rattle.ses_io.specs.Streams.{AppendsSome}
+use Rattle.session_model.specs.declared.session.Session.{Session}
+use Rattle.session_model.specs.declared.edit.Edit.{Edit}
 use Rattle.engine_model.specs.Edits.{has_quit}
-use Rattle.engine_model.specs.Played.{master_file}
+use Rattle.engine_model.specs.Fits.{is_lawful}
+use Rattle.engine_model.specs.Journal.{Entry}
+use Rattle.engine_model.specs.Played.{Samples, master_file}
 use Rattle.input_blocks.specs.State.{InputState, IsCutShort, IsReadTo}
+use Rattle.master_blocks.specs.Bytes.{end_bytes, entry_bytes, head_bytes}
 use Rattle.run_world.specs.declared.finished.Finished.{Finished}
 use Rattle.run_world.specs.declared.opened.Opened.{Opened}
 use Rattle.engine_steps.specs.Failed.{has_stopped}
@@ -11,11 +18,33 @@ use Rattle.engine_steps.specs.Started.{Started}
 use Rattle.engine_steps.specs.UnderWay.{IsInputOf}
 use Rattle.engine_run.specs.Finished.{failed_of, journal_of, samples_opened}
 
+-- the header of so many cycles, and the blocks of all entries
+abbrev pub bytes_made : Session → List Edit → Samples → ℕ → List Entry → List ℕ
+bytes_made s edits samples cycles journal = head_bytes s cycles ++ flat_map (entry_bytes s edits samples) journal
+
+-- A front was written of the block of an entry that isn't in the journal, and that makes a lawful one with it.
+pub record HasNextInPart (first now : List ℕ) (s : Session) (edits : List Edit) (samples : Samples) (cycles : ℕ) (journal : List Entry) : Type 0 where
+  pub next : Entry
+  pub lawful : is_lawful s edits (journal ++ next ∷ []) ≡ true
+  pub front : AppendsSome (first ++ bytes_made s edits samples cycles journal) now (entry_bytes s edits samples next)
+
+-- **where a write of the master failed**: after what it held at first it has a front of the header, and there is no entry; or it has
+-- header and the blocks of all entries, and a front of the block of one entry more; or all of them, and a front of its end
+abbrev pub IsCutOff : (first now : List ℕ) → Session → List Edit → Samples → ℕ → List Entry → Type 0
+IsCutOff first now s edits samples cycles journal = ((journal ≡ []) × AppendsSome first now (head_bytes s cycles))
+    ⊎ (HasNextInPart first now s edits samples cycles journal
+    ⊎ AppendsSome (first ++ bytes_made s edits samples cycles journal) now (end_bytes s cycles (length journal)))
+
 module _ {M I C W O : Type 0} where
   -- **Where no write of it failed the master holds what it held, and then its file.**
   abbrev pub GetsTheMaster : MediaOutside M → SinkOutside W → Opened M I C W O → Finished M I C W O → Type 0
   GetsTheMaster media sinks o f = f.faults.master ≡ false →
       sinks.held f.world.master ≡ sinks.held o.world.master ++ master_file o.edition.session f.edits.items (samples_opened media o f) o.cycles (journal_of f)
+
+  -- **Where one failed it is cut off.**
+  abbrev pub GetsAFront : MediaOutside M → SinkOutside W → Opened M I C W O → Finished M I C W O → Type 0
+  GetsAFront media sinks o f = f.faults.master ≡ true →
+      IsCutOff (sinks.held o.world.master) (sinks.held f.world.master) o.edition.session f.edits.items (samples_opened media o f) o.cycles (journal_of f)
 
   -- **All cycles were made that were asked**; fewer only after a quit, or where the input or the master has failed.
   pub record MakesItsCycles (o : Opened M I C W O) (f : Finished M I C W O) : Type 0 where

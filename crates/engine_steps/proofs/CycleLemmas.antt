@@ -6,6 +6,7 @@ use Rattle.std.proofs.lemmas.Bool.{false≢true, or_right}
 use Rattle.ses_io.specs.Outside.{MediaOutside, SourceOutside, SinkOutside}
 use Rattle.ses_io.specs.Streams.{AppendsSome}
 use Rattle.session_model.specs.declared.session.Session.{Session}
+use Rattle.session_model.specs.Valid.{IsValid}
 use Rattle.machine_model.specs.Events.{ToButler, ToControl, Capture, End, AckSend, after, is_recorded}
 use Rattle.machine_model.specs.Letters.{ends_cycle, gather_moves, track_places}
 use Rattle.machine_laws.proofs.EventLists.{after_append}
@@ -137,16 +138,17 @@ module _ {V I W : Type 0} (media : MediaOutside V) (inputs : SourceOutside I) (s
           (was tells))))
 
       -- where a write of it failed, it was cut in this cycle
-      cut_in_cycle : IsReadTo inputs (record { start = on.begun.start; blocks = suc (length old.pair.process.journal.items) }) cycles.process.input →
+      cut_in_cycle : IsValid old.pair.playing.session → IsReadTo inputs (record { start = on.begun.start; blocks = suc (length old.pair.process.journal.items) }) cycles.process.input →
           (sinks.tells → AppendsSome (sinks.held old.pair.process.master.sink) (sinks.held cycles.process.master.sink) (next_bytes on.begun.session old.pair.playing old.pair.process)) →
           (failed : Failed) → IsCutInCycle inputs sinks (playing_at (now_of on (cycled failed))) new.process
-      cut_in_cycle read front failed = subst (λ l. IsCutInCycle inputs sinks (record { session = on.begun.session; edits = l; start = on.begun.start; before = on.begun.before }) new.process)
+      cut_in_cycle valid read front failed = subst (λ l. IsCutInCycle inputs sinks (record { session = on.begun.session; edits = l; start = on.begun.start; before = on.begun.before }) new.process)
           (sym played_same) (record {
             before = old.pair.process;
             edition = old.pair.playing;
             playing = runs.playing;
             looked = looked;
             edition_of = runs.entered.edition_of;
+            valid = valid;
             given = sym may_cycle.given;
             unended = runs.entered.unended in_cycle;
             room = runs.entered.room in_cycle;
@@ -171,9 +173,9 @@ module _ {V I W : Type 0} (media : MediaOutside V) (inputs : SourceOutside I) (s
   -- ---- whatever was answered
 
   -- by what was answered
-  under_way_by : (new : Pair V I W) (answer : Result (Unit {0}) CycleFault) → Cycles inputs sinks (now_of on old) old.pair answer new → OnOk answer (Runs media inputs sinks (now_of on old) new) →
+  under_way_by : IsValid old.pair.playing.session → (new : Pair V I W) (answer : Result (Unit {0}) CycleFault) → Cycles inputs sinks (now_of on old) old.pair answer new → OnOk answer (Runs media inputs sinks (now_of on old) new) →
       Rests media (now_of on old) new → HearsInput inputs (now_of on old) new → IsUnderWay media inputs sinks on (record { pair = new; failed = after_cycle answer old.failed })
-  under_way_by new (Ok x) cycles ok rests hears = let now = now_runs media inputs sinks (now_of on old) new ok in record {
+  under_way_by valid new (Ok x) cycles ok rests hears = let now = now_runs media inputs sinks (now_of on old) new ok in record {
     rests = now_rests media (now_of on old) new rests;
     runs = λ still. now;
     shut = λ stopped. absurd (false≢true (sym goes ∙ stopped));
@@ -187,7 +189,7 @@ module _ {V I W : Type 0} (media : MediaOutside V) (inputs : SourceOutside I) (s
     cut = λ bad. absurd (master_is_fine old.failed goes bad);
     input_short = λ bad. absurd (input_is_fine old.failed goes bad);
   }
-  under_way_by new (Err InputFault) cycles ok rests hears = record {
+  under_way_by valid new (Err InputFault) cycles ok rests hears = record {
     rests = now_rests media (now_of on old) new rests;
     runs = λ still. absurd (false≢true (sym still));
     shut = λ stopped. shut new (Err InputFault) cycles;
@@ -202,7 +204,7 @@ module _ {V I W : Type 0} (media : MediaOutside V) (inputs : SourceOutside I) (s
     cut = λ bad. absurd (master_is_fine old.failed goes bad);
     input_short = λ bad. short new (Err InputFault) cycles cycles.fault (record old.failed { input = true }) cycles.reads.short;
   }
-  under_way_by new (Err MasterFault) cycles ok rests hears = record {
+  under_way_by valid new (Err MasterFault) cycles ok rests hears = record {
     rests = now_rests media (now_of on old) new rests;
     runs = λ still. absurd (false≢true (sym still ∙ or_right old.failed.input true refl));
     shut = λ stopped. shut new (Err MasterFault) cycles;
@@ -214,16 +216,16 @@ module _ {V I W : Type 0} (media : MediaOutside V) (inputs : SourceOutside I) (s
     hears = hears;
     input = input_of new (Err MasterFault) cycles cycles.reads.stream cycles.reads.block cycles.reads.ended;
     mastered = λ fine. absurd (false≢true (sym fine));
-    cut = λ bad. inr (cut_in_cycle new (Err MasterFault) cycles cycles.fault cycles.reads.place cycles.writes.front (record old.failed { master = true }));
+    cut = λ bad. inr (cut_in_cycle new (Err MasterFault) cycles cycles.fault valid cycles.reads.place cycles.writes.front (record old.failed { master = true }));
     input_short = λ bad. absurd (input_is_fine old.failed goes bad);
   }
 
   -- **A run that made a cycle is under way.**
-  pub under_way_cycled : (new : Pair V I W) (answer : Result (Unit {0}) CycleFault) (failed : Failed) → failed ≡ after_cycle answer old.failed → Cycles inputs sinks (now_of on old) old.pair answer new →
+  pub under_way_cycled : IsValid old.pair.playing.session → (new : Pair V I W) (answer : Result (Unit {0}) CycleFault) (failed : Failed) → failed ≡ after_cycle answer old.failed → Cycles inputs sinks (now_of on old) old.pair answer new →
       OnOk answer (Runs media inputs sinks (now_of on old) new) → Rests media (now_of on old) new → HearsInput inputs (now_of on old) new →
       IsUnderWay media inputs sinks on (record { pair = new; failed = failed })
-  under_way_cycled new answer failed same cycles ok rests hears = subst (λ (f : Failed). IsUnderWay media inputs sinks on (record { pair = new; failed = f })) (sym same)
-      (under_way_by new answer cycles ok rests hears)
+  under_way_cycled valid new answer failed same cycles ok rests hears = subst (λ (f : Failed). IsUnderWay media inputs sinks on (record { pair = new; failed = f })) (sym same)
+      (under_way_by valid new answer cycles ok rests hears)
 
 -- ---- the core machine
 

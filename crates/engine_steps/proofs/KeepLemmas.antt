@@ -96,6 +96,7 @@ module _ {I W : Type 0} where
     playing = cut.playing;
     looked = cut.looked;
     edition_of = cut.edition_of;
+    valid = cut.valid;
     given = cut.given;
     unended = cut.unended;
     room = cut.room;

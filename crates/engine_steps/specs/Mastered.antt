@@ -6,6 +6,7 @@ use Rattle.ses_io.specs.Streams.{AppendsSome}
 use Rattle.ses_io.specs.Outside.{SourceOutside, SinkOutside}
 use Rattle.session_model.specs.declared.edit.Edit.{Edit}
 use Rattle.engine_model.specs.Played.{samples_of}
+use Rattle.session_model.specs.Valid.{IsValid}
 use Rattle.edition_log.specs.EditionState.{EditionState as Edition, IsEditionOf}
 use Rattle.input_blocks.specs.State.{IsReadTo}
 use Rattle.master_blocks.specs.Bytes.{head_bytes, entry_bytes, end_bytes}
@@ -35,6 +36,7 @@ module _ {I W : Type 0} where
     pub playing : IsPlaying inputs at before
     pub looked : HasLooked at before
     pub edition_of : IsEditionOf at.session edition
+    pub valid : IsValid edition.session
     pub given : edition.edits ≡ at.edits
     pub unended : edition.transport.quit ≡ false
     pub room : length before.journal.items < before.journal.room

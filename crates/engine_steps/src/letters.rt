@@ -81,6 +81,8 @@ impl<M: Media, I: Source, W: Sink> Run<M, I, W> {
         if !pair.in_cycle {
             return Run { pair, failed };
         }
+        // by which the session of its edition is valid
+        let _session = pair.playing.session();
         let (pair, answer) = pair.cycle();
         Run {
             pair,

@@ -32,7 +32,7 @@ cycle-pair-requires g c κs within = let r = c.gather-pair.result in let now = c
 pub returns-clause-under_way : goal.returns-clause-under_way
 returns-clause-under_way g c = let M = g.M.Media.outside in let I = g.I.Source.outside in let W = g.W.Sink.outside in let r = c.gather-pair.result in let now = c.gather-pair.ensures in
     let new = c.cycle-pair.result.0 in let did = c.cycle-pair.ensures in
-    cycle.under_way_cycled M I W g.on r now.under_way c.if-not-pair.false (played_all c.args.self r now.gathers c.if-not-pair.false) (now.looked c.if-not-pair.false)
+    cycle.under_way_cycled M I W g.on r now.under_way c.if-not-pair.false (played_all c.args.self r now.gathers c.if-not-pair.false) (now.looked c.if-not-pair.false) c.session-session.ensures.seen.valid
     new c.cycle-pair.result.1 c.after_cycle.result c.after_cycle.ensures did.cycles did.runs did.rests did.hears
 
 pub returns-clause-cycles : goal.returns-clause-cycles
