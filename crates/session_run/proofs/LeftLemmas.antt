@@ -1,5 +1,5 @@
 -- What a run leaves whose control says the two lines of an export, and which has no input.
-use Rattle.std.proofs.Common.{◌≡◌, ℕ, ◌-◌, ◌*◌, ◌<◌, ◌≤◌, List, [], ◌∷◌, ◌++◌, length, min, refl, sym, ap, subst, ◌∙◌, arith}
+use Rattle.std.proofs.Common.{◌≡◌, ℕ, ◌-◌, ◌*◌, ◌≤◌, List, [], ◌∷◌, ◌++◌, length, min, refl, sym, ap, ◌∙◌, arith}
 use Rattle.std.specs.Prelude.{Bool, true, false, ◌&&◌, ◌||◌, ◌==◌, not, if◌then◌else◌, reverse, Option, Some, None}
 use Rattle.sound_model.specs.Wav.{align}
 use Rattle.ses_io.specs.Outside.{MediaOutside, OnlyReads, SinkOutside, SourceOutside}
@@ -28,7 +28,7 @@ use Rattle.engine_steps.specs.Started.{Started}
 use Rattle.engine_end.specs.Passed.{IsToldToControl, PassedOn}
 use Rattle.engine_end.specs.Takes.{LeavesTakes}
 use Rattle.engine_run.specs.Beginning.{started_of}
-use Rattle.engine_run.specs.Finished.{FaultsAreCounted, LeavesRings, ended_of, failed_of, journal_of}
+use Rattle.engine_run.specs.Finished.{FaultsAreCounted, LeavesRings, ended_of, journal_of}
 use Rattle.engine_run.specs.Lines.{GoesByItsLines}
 use Rattle.engine_run.specs.Mastered.{MakesItsCycles, ReadsItsInput}
 use Rattle.session_opening.specs.declared.loading.Loaded.{Loaded}

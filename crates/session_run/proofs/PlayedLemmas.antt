@@ -171,6 +171,8 @@ module _ {M I C W O : Type 0} (outside : MediaOutside M) (sink : SinkOutside W) 
       most = leaves.most;
       all = λ still. leaves.all (fine still);
       rings = subst (λ l. PassedOn x.edition.session (edits_of o) (journal_of f) l.items) (sym rings_are) (subst (λ es. PassedOn x.edition.session es (journal_of f) f.rings.items) leaves.edits_are leaves.passed);
+      acks = subst (λ (a : Option (Joined Ack)). IfSome a (IsToldToControl x.edition.session (edits_of o) (journal_of f))) (sym acks_are)
+          (subst (λ es. IsToldToControl x.edition.session es (journal_of f) f.acks) leaves.edits_are leaves.acks);
       plainly = λ done. let none = status.done_says f.faults.read f.faults.master new.status of done in leaves.plainly none.0 none.1;
     }
 
