@@ -1,6 +1,7 @@
 -- Lines that are read one after another.
 use Rattle.std.proofs.Common.{inl, inr, ◌≡◌, ℕ, suc, ◌+◌, ◌≤◌, refl, ap, arith, ◌∙◌, sym, subst, List, [], ◌∷◌, ◌++◌, length, take, append_assoc, append-nil, length-append}
 use Rattle.std.specs.Prelude.{Bool, true, false, map, Option, Some, None, Ok, Err}
+use Rattle.std.proofs.lemmas.Bool.{false≢true, true≢false}
 use Rattle.ses_io.specs.Faults.{risen}
 use Rattle.ses_io.specs.Outside.{SourceOutside}
 use Rattle.engine_model.specs.Lines.{Line}
@@ -76,6 +77,7 @@ module _ {C : Type 0} (source : SourceOutside C) where
     takes = subst (λ xs. Takes source xs old new) (sym (append-nil b.0)) b.1;
     no_feed = refl;
     none_lost = λ e. refl;
+    none_waits = λ fine e. absurd (false≢true e);
     first = λ t. cut_by (to_come source old) (to_come source new) answer (cuts t) refl
         (λ none. sym (front_is source t b.1 ∙ ap (λ xs. xs ++ to_come source new) (b.2 none)));
     counted = counted_same (source.faults old.source) (source.faults new.source) false same;
@@ -91,6 +93,7 @@ module _ {C : Type 0} (source : SourceOutside C) where
     takes = front.takes;
     no_feed = front.no_feed;
     none_lost = λ e. absurd cc;
+    none_waits = λ fine e. front.none;
     first = λ t. ap lines_in (front_is source t front.takes);
     counted = counted_fault (source.faults old.source) (source.faults new.source) later rose;
   }
@@ -104,6 +107,7 @@ module _ {C : Type 0} (source : SourceOutside C) where
     takes = record { allowed = omega arith; next = λ t. refl };
     no_feed = refl;
     none_lost = λ e. refl;
+    none_waits = λ fine e. absurd (true≢false (sym e ∙ fine));
     first = λ t. refl;
     counted = counted_same (source.faults s.source) (source.faults s.source) was refl;
   }
@@ -126,6 +130,7 @@ module _ {C : Type 0} (source : SourceOutside C) where
     takes = subst (λ zs. Takes source zs a c) (regrouped one.bytes one.lost two.bytes two.lost (one.none_lost refl)) (takes_on source one.takes two.takes);
     no_feed = two.no_feed;
     none_lost = two.none_lost;
+    none_waits = λ fine e. two.none_waits refl e;
     first = λ t. one.first t ∙ ap (λ zs. xs ++ lines_in (zs ++ to_come source b)) (one.none_lost refl) ∙ ap (λ zs. xs ++ zs) (two.first t)
         ∙ sym (append_assoc xs ys (lines_in (two.lost ++ to_come source c)));
     counted = counted_on (source.faults a.source) (source.faults b.source) (source.faults c.source) was false is one.counted two.counted first (λ e. absurd cc);

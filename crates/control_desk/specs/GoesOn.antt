@@ -27,6 +27,8 @@ pub record ReadsLines {C : Type 0} (source : SourceOutside C) (lines : List Line
   pub takes : Takes source (bytes ++ lost) old new
   pub no_feed : has_no_feed lost ≡ true
   pub none_lost : is ≡ false → lost ≡ []
+  -- and no byte was read beyond it that is in no line
+  pub none_waits : was ≡ false → is ≡ true → new.waiting ≡ []
   pub first : source.tells → lines_in (to_come source old) ≡ lines ++ lines_in (lost ++ to_come source new)
   pub counted : IsCounted (source.faults old.source) (source.faults new.source) was is
 

@@ -39,7 +39,7 @@ impl Progress {
     }
 
     /// Whether what is waited for has come, or can't come any more.
-    pub(crate) fn is_over(&self, awaited: Awaited) -> bool
+    pub fn is_over(&self, awaited: Awaited) -> bool
         ensures { result ≡ is_over_by self.now (awaited_of awaited) }
     {
         let has_come = match awaited {

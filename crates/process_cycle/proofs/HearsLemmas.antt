@@ -22,7 +22,8 @@ use Rattle.process_cycle.specs.Captured.{AreOfInput, Hears}
 use Rattle.process_cycle.specs.Ends.{AreOtherEnds, EndsMeet}
 use Rattle.process_cycle.specs.ProcessState.{Playing}
 use Rattle.process_cycle.proofs.CapturedLemmas.{of_input_more}
-use Rattle.process_cycle.proofs.PromiseLemmas.{MakesOne, met_in}
+use Rattle.process_cycle.proofs.PromiseLemmas.{MakesOne}
+use Rattle.process_cycle.proofs.MeetPromiseLemmas.{met_in}
 
 -- ---- while ends meet
 

@@ -5,6 +5,7 @@ pub mod CapturedLemmas
 pub mod BlockLemmas
 pub mod TruthLemmas
 pub mod PromiseLemmas
+pub mod MeetPromiseLemmas
 pub mod HearsLemmas
 pub mod MasterLemmas
 mod MeetLemmas

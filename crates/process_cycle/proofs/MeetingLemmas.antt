@@ -24,7 +24,7 @@ use Rattle.process_cycle.specs.Playing.{IsPlaying, IsOpenIn, IsRecorded}
 use Rattle.process_cycle.specs.ProcessState.{ProcessState, Playing, entries_of, position_of, sound_of}
 use Rattle.process_cycle.specs.Promised.{HoldsBlocks}
 use Rattle.process_cycle.proofs.HearsLemmas.{hears_while_meeting}
-use Rattle.process_cycle.proofs.PromiseLemmas.{promises_while_meeting}
+use Rattle.process_cycle.proofs.MeetPromiseLemmas.{promises_while_meeting}
 
 -- some other end of the same ring, for lists that are read past their end
 some_sender : {T : Type 0} → Receiver T → Sender T

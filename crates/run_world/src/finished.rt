@@ -1,6 +1,6 @@
 //! A run that has ended.
 use cycle_journal::Journal;
-use disk_ring::Ring;
+use disk_ring::{Ring, Roomy};
 use piece_item::Ack;
 use run_rings::RingsList;
 use ses_io::World;
@@ -28,6 +28,23 @@ pub struct Faults {
     pub memory: bool,
 }
 
+/// So many cycles may be made, in this edition or in a newer one: what control tells the process on
+/// threads.
+#[derive(Clone, Copy, Debug, PartialEq, Eq)]
+pub struct Grant {
+    pub cycles: u32,
+    /// How many edits were accepted by then.
+    pub edition: u32,
+}
+
+impl Roomy for Grant {
+    ghost room_of = { λ _. 0 };
+
+    fn room(&self) -> u32 {
+        0
+    }
+}
+
 /// All that a run leaves.
 #[derive(Drop)]
 pub struct Finished<M, I, C, W, O> {
@@ -38,5 +55,7 @@ pub struct Finished<M, I, C, W, O> {
     pub rings: RingsList,
     /// The ring of acknowledgements to control.
     pub acks: Ring<Ack>,
+    /// The ring by which control allowed cycles; none on one thread.
+    pub grants: Option<Ring<Grant>>,
     pub faults: Faults,
 }

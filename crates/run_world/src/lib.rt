@@ -4,5 +4,5 @@
 mod finished;
 mod opened;
 
-pub use finished::{Faults, Finished};
+pub use finished::{Faults, Finished, Grant};
 pub use opened::{Opened, Script};

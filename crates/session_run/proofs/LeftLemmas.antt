@@ -23,14 +23,14 @@ use Rattle.control_desk.specs.GoesOn.{Passes}
 use Rattle.control_desk.specs.Standing as desk
 use Rattle.control_desk.specs.Standing.{read_failed, write_failed}
 use Rattle.control_desk.specs.State.{ControlState, export_lines, scripted}
-use Rattle.engine_steps.specs.Failed.{IsCounted}
-use Rattle.engine_steps.specs.Started.{Started}
-use Rattle.engine_end.specs.Passed.{IsToldToControl, PassedOn}
-use Rattle.engine_end.specs.Takes.{LeavesTakes}
-use Rattle.engine_run.specs.Beginning.{started_of}
-use Rattle.engine_run.specs.Finished.{FaultsAreCounted, LeavesRings, ended_of, journal_of}
-use Rattle.engine_run.specs.Lines.{GoesByItsLines}
-use Rattle.engine_run.specs.Mastered.{MakesItsCycles, ReadsItsInput}
+use Rattle.engine_core.specs.Failed.{IsCounted}
+use Rattle.engine_core.specs.Started.{Started}
+use Rattle.engine_core.specs.Passed.{IsToldToControl, PassedOn}
+use Rattle.engine_core.specs.Takes.{LeavesTakes}
+use Rattle.engine_core.specs.Beginning.{started_of}
+use Rattle.engine_core.specs.Finished.{FaultsAreCounted, LeavesRings, ended_of, journal_of}
+use Rattle.engine_core.specs.Lines.{GoesByItsLines}
+use Rattle.engine_core.specs.Mastered.{MakesItsCycles, ReadsItsInput}
 use Rattle.session_opening.specs.declared.loading.Loaded.{Loaded}
 use Rattle.session_opening.specs.Words.{Export}
 use Rattle.session_run.specs.Exported.{AllStayOpen}

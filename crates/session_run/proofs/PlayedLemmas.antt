@@ -21,9 +21,10 @@ use Rattle.disk_ring.specs.Rings.{Joined, Whole}
 use Rattle.run_world.specs.declared.finished.Finished.{Finished}
 use Rattle.run_rings.specs.declared.joining.TrackRings.{TrackRings}
 use Rattle.piece_item.specs.declared.ack.Ack.{Ack}
-use Rattle.engine_end.specs.Passed.{AllGenuine, IsToldToControl, PassedOn}
-use Rattle.engine_run.specs.Finished.{journal_of}
-use Rattle.engine_run.specs.Mastered.{IsCutOff}
+use Rattle.engine_core.specs.Passed.{AllGenuine, IsToldToControl, PassedOn}
+use Rattle.engine_core.specs.Finished.{journal_of}
+use Rattle.engine_core.specs.Mastered.{IsCutOff}
+use Rattle.run_world.specs.declared.finished.Faults.{Faults}
 use Rattle.session_opening.specs.Answers.{Caused, HasHeads, Refuses, plan_from}
 use Rattle.session_opening.specs.Plan.{Open, Plan, Wrong}
 use Rattle.session_opening.specs.Words.{Export}
@@ -132,7 +133,7 @@ module _ {M I C W O : Type 0} (outside : MediaOutside M) (sink : SinkOutside W) 
       run = run_before p es e.run;
       genuine = subst (λ f. AllGenuine (sounds_in f p.session) p.session (edits_of p) new.rings.items) only.files e.genuine;
       written = λ u still. subst (λ f. sink.held new.world.master ≡ sink.held old.master ++ exported f p es) only.files (e.written u still);
-      cut_off = λ u rose. subst (λ f. IsCutOff (sink.held old.master) (sink.held new.world.master) p.session (edits_of p) (samples_of (sounds_in f p.session) p.session (edits_of p)) p.cycles es) only.files (e.cut_off u rose);
+      cut_off = λ u rose. subst (λ f. IsCutOff false (sink.held old.master) (sink.held new.world.master) p.session (edits_of p) (samples_of (sounds_in f p.session) p.session (edits_of p)) p.cycles es) only.files (e.cut_off u rose);
     }
 
     by_hand : (es : List engine.Entry) → IsOfSome sink (record old { media = media }) new e es → IsOfSome sink old new e es
@@ -144,7 +145,7 @@ module _ {M I C W O : Type 0} (outside : MediaOutside M) (sink : SinkOutside W) 
       (genuine : outside.tells → AllGenuine (source_sound (outside.files old.media) x.sources.opened) x.edition.session f.edits.items f.rings.items)
       (master : outside.tells → sink.tells → f.faults.master ≡ false → sink.held f.world.master ≡ sink.held old.master ++ master_file x.edition.session f.edits.items
       (samples_of (source_sound (outside.files old.media) x.sources.opened) x.edition.session f.edits.items) e.cycles (journal_of f))
-      (front : outside.tells → sink.tells → f.faults.master ≡ true → IsCutOff (sink.held old.master) (sink.held f.world.master) x.edition.session f.edits.items
+      (front : outside.tells → sink.tells → f.faults.master ≡ true → IsCutOff f.faults.input (sink.held old.master) (sink.held f.world.master) x.edition.session f.edits.items
       (samples_of (source_sound (outside.files old.media) x.sources.opened) x.edition.session f.edits.items) e.cycles (journal_of f))
       (new : Outcome M I C W O) (status_is : new.status ≡ status_at_end f.faults) (world_is : new.world ≡ f.world) (journal_is : new.journal ≡ Some f.journal) (rings_are : new.rings ≡ f.rings) (acks_are : new.acks ≡ Some f.acks) where
     abbrev o : Plan
@@ -185,10 +186,11 @@ module _ {M I C W O : Type 0} (outside : MediaOutside M) (sink : SinkOutside W) 
       written = λ u still. ap (λ (w : World M I C W O). sink.held w.master) world_is
           ∙ master t u (fine still) ∙ ap (λ (h : Sounds). first ++ master_file x.edition.session f.edits.items (samples_of h x.edition.session f.edits.items) e.cycles (journal_of f)) sounds
           ∙ ap (λ (es : List Edit). first ++ master_file x.edition.session es (samples_of (sounds_in (outside.files old.media) x.edition.session) x.edition.session es) e.cycles (journal_of f)) leaves.edits_are;
-      cut_off = λ u rose. subst (λ es. IsCutOff first now x.edition.session es (samples_of (sounds_in (outside.files old.media) x.edition.session) x.edition.session es) e.cycles (journal_of f))
-          leaves.edits_are (subst (λ (h : Sounds). IsCutOff first now x.edition.session f.edits.items (samples_of h x.edition.session f.edits.items) e.cycles (journal_of f)) sounds
-          (subst (λ (w : World M I C W O). IsCutOff first (sink.held w.master) x.edition.session f.edits.items (samples_of (source_sound (outside.files old.media) x.sources.opened) x.edition.session f.edits.items) e.cycles (journal_of f)) (sym world_is)
-          (front t u (status.some_rise (sink.faults old.master) (sink.faults f.world.master) f.faults.master leaves.writes (omega (arith, rose, master_is))))));
+      cut_off = λ u rose. subst (λ es. IsCutOff false first now x.edition.session es (samples_of (sounds_in (outside.files old.media) x.edition.session) x.edition.session es) e.cycles (journal_of f))
+          leaves.edits_are (subst (λ (h : Sounds). IsCutOff false first now x.edition.session f.edits.items (samples_of h x.edition.session f.edits.items) e.cycles (journal_of f)) sounds
+          (subst (λ (w : World M I C W O). IsCutOff false first (sink.held w.master) x.edition.session f.edits.items (samples_of (source_sound (outside.files old.media) x.sources.opened) x.edition.session f.edits.items) e.cycles (journal_of f)) (sym world_is)
+          (subst (λ b. IsCutOff b first (sink.held f.world.master) x.edition.session f.edits.items (samples_of (source_sound (outside.files old.media) x.sources.opened) x.edition.session f.edits.items) e.cycles (journal_of f))
+          (ap (λ (z : Faults). z.input) leaves.noted) (front t u (status.some_rise (sink.faults old.master) (sink.faults f.world.master) f.faults.master leaves.writes (omega (arith, rose, master_is)))))));
     }
 
     of_export_by : (new.status ≡ Done) ⊎ ((new.status ≡ MasterFault) ⊎ (new.status ≡ ReadFault)) → IsOfExport new.status

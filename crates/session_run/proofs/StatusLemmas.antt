@@ -8,7 +8,7 @@ use Rattle.cycle_journal.specs.declared.status.Status.{Status}
 use Rattle.cycle_journal.specs.declared.status.Status.TheVariants.{Done, Usage, MasterFault, OutFault, NoMemory}
 use Rattle.cycle_journal.specs.declared.status.Status.TheVariants as status
 use Rattle.run_world.specs.declared.finished.Faults.{Faults}
-use Rattle.engine_steps.specs.Failed.{IsCounted}
+use Rattle.engine_core.specs.Failed.{IsCounted}
 use Rattle.session_opening.specs.Answers.{Caused, Refuses, unopened as opening}
 use Rattle.session_opening.specs.Plan.{Open}
 use Rattle.session_opening.specs.Words.{Command, ToExport, ToMigrate, ToCheck, ToRender}

@@ -18,8 +18,8 @@ use Rattle.cycle_journal.specs.declared.entry.Entry.{Entry}
 use Rattle.cycle_journal.specs.declared.status.Status.TheVariants.{Done}
 use Rattle.cycle_journal.specs.JournalView.{seen_entries}
 use Rattle.run_rings.specs.declared.joining.TrackRings.{TrackRings}
-use Rattle.engine_end.specs.Passed.{AllGenuine, IsToldToControl, PassedOn}
-use Rattle.engine_run.specs.Mastered.{IsCutOff}
+use Rattle.engine_core.specs.Passed.{AllGenuine, IsToldToControl, PassedOn}
+use Rattle.engine_core.specs.Mastered.{IsCutOff}
 use Rattle.session_opening.specs.Plan.{Plan, Wrong}
 use Rattle.session_opening.specs.Words.{Export}
 use Rattle.session_run.specs.declared.outcome.Outcome.{Outcome}
@@ -84,7 +84,7 @@ module _ {M I C W O : Type 0} where
         master.held new.world.master ≡ master.held old.master ++ exported (media.files old.media) p journal
     -- and where it rose, what it got is cut off
     pub cut_off : master.tells → master.faults old.master < master.faults new.world.master →
-        IsCutOff (master.held old.master) (master.held new.world.master) p.session (edits_of p) (samples_of (sounds_in (media.files old.media) p.session) p.session (edits_of p)) p.cycles journal
+        IsCutOff false (master.held old.master) (master.held new.world.master) p.session (edits_of p) (samples_of (sounds_in (media.files old.media) p.session) p.session (edits_of p)) p.cycles journal
 
   -- What was played is the export that the words ask for, of some valid session.
   pub record IsOfSome (master : SinkOutside W) (old : World M I C W O) (new : Outcome M I C W O) (e : Export) (journal : List engine.Entry) : Type 0 where

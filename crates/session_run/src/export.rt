@@ -7,7 +7,7 @@ ghost use Rattle.session_run.specs.Carried.{CarriesOut};
 use crate::ending::{status_at_end, status_of};
 use crate::outcome::{Outcome, played, unplayed};
 use cycle_journal::Status;
-use engine_run::run_events;
+use engine_core::run_events;
 use run_world::{Opened, Script};
 use ses_io::{Media, Sink, Source, World};
 use session_opening::{Export, Loaded, open};

@@ -61,6 +61,7 @@ pub(crate) fn played<M, I, C, W, O>(
         edits: _,
         rings,
         acks,
+        grants: _,
         faults: _,
     } = finished;
     Outcome {

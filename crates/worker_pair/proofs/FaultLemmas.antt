@@ -12,7 +12,7 @@ use Rattle.process_cycle.specs.Captured.{Hears}
 use Rattle.process_cycle.specs.ProcessState.{ProcessState, entries_of, sound_of}
 use Rattle.process_cycle.specs.Promised.{Promises}
 use Rattle.process_cycle.proofs.HearsLemmas.{hears_while_meeting}
-use Rattle.process_cycle.proofs.PromiseLemmas.{promises_while_meeting}
+use Rattle.process_cycle.proofs.MeetPromiseLemmas.{promises_while_meeting}
 use Rattle.worker_pair.specs.declared.pair.Pair.{Pair}
 use Rattle.worker_pair.specs.Begun.{At, playing_at}
 use Rattle.worker_pair.specs.Never.{NothingIsTaken}

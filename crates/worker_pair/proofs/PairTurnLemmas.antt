@@ -15,7 +15,7 @@ use Rattle.process_cycle.specs.declared.ends.ProcessEnds.{ProcessEnds}
 use Rattle.process_cycle.specs.Ends.{EndsMeet}
 use Rattle.process_cycle.specs.Playing.{IsPlaying}
 use Rattle.process_cycle.proofs.HearsLemmas.{hears_while_meeting}
-use Rattle.process_cycle.proofs.PromiseLemmas.{promises_while_meeting}
+use Rattle.process_cycle.proofs.MeetPromiseLemmas.{promises_while_meeting}
 use Rattle.process_cycle.specs.ProcessState.{ProcessState, entries_of, sound_of}
 use Rattle.process_cycle.specs.Promised.{IsMastered}
 use Rattle.worker_pair.specs.declared.pair.Pair.{Pair}

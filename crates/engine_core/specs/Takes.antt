@@ -1,0 +1,37 @@
+-- The takes that a run leaves.
+use Rattle.std.specs.Prelude.{◌≡◌, ℕ, true, false, map, slice_get, Some}
+use Rattle.ses_io.specs.Outside.{MediaOutside, SourceOutside}
+use Rattle.cycle_journal.specs.JournalView.{seen_entries}
+use Rattle.engine_model.specs.Takes.{Input}
+use Rattle.capture_flush.specs.Blocks.{block_of, taken_blocks}
+use Rattle.run_rings.specs.declared.joining.TrackRings.{TrackRings}
+use Rattle.capture_flush.specs.Finished.{Recorded, AreTakes, AreTakesInPart}
+use Rattle.input_blocks.specs.Rest.{rest_sound}
+use Rattle.worker_pair.specs.Begun.{Begun}
+use Rattle.engine_core.specs.Started.{Started}
+use Rattle.engine_core.specs.declared.parting.Ended.{Ended}
+
+-- what takes are made of: session and files as they were at first, and what was heard
+abbrev pub recorded_of : Begun → Input → Recorded
+recorded_of begun input = record { session = begun.session; input = input; held = begun.files }
+
+-- the sound of the input of a run, by what it had left at first
+abbrev pub sound_of : {V I W : Type 0} → Started V I W → Input
+sound_of on = rest_sound on.stream on.begun.start
+
+-- **The takes that a run leaves**, of what was heard of its input.
+pub record LeavesTakes {V I W : Type 0} (media : MediaOutside V) (inputs : SourceOutside I) (on : Started V I W) (ended : Ended V I W) : Type 0 where
+  -- some sound, which is the input's own where it tells
+  pub input : Input
+  pub told_so : inputs.tells → input ≡ sound_of on
+  -- each block that was captured is of it
+  pub captured : (t : ℕ) (r : TrackRings) → slice_get ended.rings.items t ≡ Some r → map block_of r.takes.sent ≡ taken_blocks on.begun.session input t (seen_entries ended.journal.items)
+  -- where tracks may be recorded the files hold exactly the takes that the journal names beside what they held
+  pub whole : on.begun.records ≡ true → media.tells → ended.failed.write ≡ false → AreTakes (recorded_of on.begun input) (seen_entries ended.journal.items) (media.files ended.media)
+  -- and once a write has failed, a front of each take's sound
+  pub in_part : on.begun.records ≡ true → media.tells → ended.failed.write ≡ true →
+      AreTakesInPart (recorded_of on.begun input) (seen_entries ended.journal.items) (media.files ended.media)
+  -- else no file has changed
+  pub same : on.begun.records ≡ false → media.files ended.media ≡ on.begun.files
+  -- and no write of them has failed
+  pub unwritten : on.begun.records ≡ false → ended.failed.write ≡ false

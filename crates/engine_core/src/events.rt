@@ -1,0 +1,70 @@
+//! The events that a run is given, before its serial rest.
+ghost use Rattle.engine_core.specs.Events.{Course, and_given, given, letter_of};
+ghost use Rattle.engine_core.specs.Going.{GoesOnBy, IsGoing, MayGoOn};
+ghost use Rattle.engine_core.specs.Opening.{Opening};
+
+use crate::engine::Engine;
+use ses_io::{Media, Sink, Source};
+
+/// What happens on one thread, one thing after another.
+#[derive(Clone, Copy, Debug, PartialEq, Eq)]
+pub enum Event {
+    /// Control carries out one line.
+    Control,
+    /// The butler enters the newest edition, and makes a turn of one item.
+    Butler,
+    /// The process enters the newest edition, where it hasn't since its last entry.
+    Enter,
+    /// The process enters likewise, and looks once at each track.
+    Gather,
+    /// The process does the same, and then makes a cycle.
+    Cycle,
+}
+
+impl<M: Media, I: Source, C: Source, W: Sink, O: Sink> Engine<M, I, C, W, O> {
+    /// One event. What can't be done is left: past the cycles that were asked, after a fault of the
+    /// process, or once it has entered a quit the process does nothing.
+    pub fn event(self, event: Event) -> Engine<M, I, C, W, O>
+        ghost on: { Opening M I C W O }
+        requires { MayGoOn M.outside I.outside W.outside on.started self }
+        ensures may { MayGoOn M.outside I.outside W.outside on.started result }
+        ensures goes { GoesOnBy M.outside I.outside C.outside W.outside O.outside on
+            (letter_of event) self result }
+    {
+        let Engine { run, control } = self;
+        match event {
+            Event::Control => Engine { run, control }.carry(),
+            Event::Butler => {
+                let (run, _) = run.turn();
+                Engine { run, control }
+            }
+            Event::Enter => Engine {
+                run: run.enter(),
+                control,
+            },
+            Event::Gather => Engine {
+                run: run.gather(),
+                control,
+            },
+            Event::Cycle => Engine {
+                run: run.cycle(),
+                control,
+            },
+        }
+    }
+
+    /// These events, in their order.
+    pub fn events(self, events: &[Event]) -> Engine<M, I, C, W, O>
+        ghost on: { Course M I C W O }
+        requires { IsGoing M.outside I.outside C.outside W.outside O.outside (given on) self }
+        ensures { IsGoing M.outside I.outside C.outside W.outside O.outside
+            (given (and_given events.now on)) result }
+    {
+        let mut engine = self;
+        for at in 0..events.len() {
+            let event = events[at];
+            engine = engine.event(event);
+        }
+        engine
+    }
+}

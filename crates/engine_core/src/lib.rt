@@ -1,0 +1,23 @@
+//! A run on one thread, whole: the events that it is given, its serial rest, and its end. What it leaves is said whatever fails, and
+//! where nothing of butler and process has failed it is the core machine's, letter by letter.
+#![tactic(auto)]
+
+mod beginning;
+mod carrying;
+mod closing;
+mod cycle;
+mod draining;
+mod engine;
+mod events;
+mod failed;
+mod finishing;
+mod letters;
+mod lists;
+mod mastering;
+mod parting;
+mod rest;
+mod run;
+mod running;
+
+pub use events::Event;
+pub use running::run_events;

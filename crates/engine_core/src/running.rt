@@ -1,0 +1,109 @@
+//! A run from its first event to its end.
+ghost use Rattle.std.specs.Prelude.{◌≡◌, IfOk, IfErr};
+ghost use Rattle.engine_core.specs.Events.{Course};
+ghost use Rattle.engine_core.specs.Takes.{LeavesTakes};
+ghost use Rattle.engine_core.specs.Beginning.{MayRun, course_of, started_of};
+ghost use Rattle.engine_core.specs.Finished.{FaultsAreCounted, LeavesRings, SendsGenuine, ended_of, finished_of};
+ghost use Rattle.engine_core.specs.Lines.{GoesByItsLines};
+ghost use Rattle.engine_core.specs.Mastered.{GetsAFront, GetsTheMaster, MakesItsCycles, ReadsItsInput};
+ghost use Rattle.engine_core.specs.Played.{IsPlayed};
+
+use crate::beginning::begin;
+use crate::engine::Engine;
+use crate::events::Event;
+use crate::finishing::finish;
+use crate::parting::Ended;
+use crate::rest::play_on;
+use control_desk::ControlParts;
+use master_blocks::the_master_is_its_blocks;
+use run_world::{Faults, Finished, Opened};
+use ses_io::{Media, Sink, Source, World};
+use std::alloc::Global;
+
+// What a run leaves, with what control leaves.
+fn finished<M, I, C, W, O>(
+    ended: Ended<M, I, W>,
+    control: ControlParts<C, O>,
+) -> Finished<M, I, C, W, O>
+    ensures { result ≡ finished_of ended control }
+{
+    Finished {
+        world: World {
+            media: ended.media,
+            input: ended.input,
+            control: control.source,
+            master: ended.master,
+            out: control.out,
+        },
+        journal: ended.journal,
+        edits: ended.edits,
+        rings: ended.rings,
+        acks: ended.acks,
+        grants: None,
+        faults: Faults {
+            input: ended.failed.input,
+            master: ended.failed.master,
+            read: ended.failed.read,
+            write: ended.failed.write,
+            control: control.read_failed,
+            long: control.long,
+            out: control.write_failed,
+            memory: false,
+        },
+    }
+}
+
+// Begins a run, and plays it to its end.
+fn play<M: Media, I: Source, C: Source, W: Sink, O: Sink>(
+    alloc: Global,
+    o: Opened<M, I, C, W, O>,
+    events: &[Event],
+) -> Result<Finished<M, I, C, W, O>, World<M, I, C, W, O>>
+    ghost on: { Course M I C W O }
+    requires may { MayRun M.outside o }
+    requires told { on ≡ course_of M.outside I.outside W.outside o events.now }
+    ensures played { IfOk result (IsPlayed M.outside I.outside C.outside W.outside O.outside on) }
+    ensures back { IfErr result (λ w. w ≡ o.world) }
+{
+    let records = o.script.is_none();
+    let (engine, lists) = match begin(alloc, o) {
+        Ok(begun) => begun,
+        Err(world) => return Err(world),
+    };
+    let Engine { run, control } = play_on(engine.events(events));
+    let ended = finish(run, lists, records);
+    // it has no more entries than it has room for
+    let _made = ended.journal.entries();
+    Ok(finished(ended, control.parts()))
+}
+
+/// Runs the events on one thread, and then the serial rest: what control awaits, its lines in order,
+/// and for each cycle turns of the butler and looks of the process until a turn is idle. Then the
+/// rings are closed, the butler makes turns until one is idle, and the takes are made whole. It takes
+/// no memory once the run has begun. Err is want of memory before that, and gives the world back.
+pub fn run_events<M: Media, I: Source, C: Source, W: Sink, O: Sink>(
+    alloc: Global,
+    o: Opened<M, I, C, W, O>,
+    events: &[Event],
+) -> Result<Finished<M, I, C, W, O>, World<M, I, C, W, O>>
+    requires { MayRun M.outside o }
+    ensures lines { IfOk result (GoesByItsLines C.outside O.outside o events.now) }
+    ensures rings { IfOk result (LeavesRings o) }
+    ensures genuine { M.outside.tells → IfOk result (SendsGenuine M.outside o) }
+    ensures master { M.outside.tells → W.outside.tells
+        → IfOk result (GetsTheMaster M.outside W.outside o) }
+    ensures front { M.outside.tells → W.outside.tells
+        → IfOk result (GetsAFront M.outside W.outside o) }
+    ensures cycles { IfOk result (MakesItsCycles o) }
+    ensures input { IfOk result (ReadsItsInput I.outside
+        (started_of M.outside I.outside W.outside o)) }
+    ensures takes { IfOk result (λ f. LeavesTakes M.outside I.outside
+        (started_of M.outside I.outside W.outside o) (ended_of f)) }
+    ensures counts { IfOk result
+        (FaultsAreCounted M.outside I.outside C.outside W.outside O.outside o) }
+    ensures back { IfErr result (λ w. w ≡ o.world) }
+{
+    // header, blocks and end are the master's file
+    the_master_is_its_blocks();
+    play(alloc, o, events)
+}

@@ -1,4 +1,0 @@
-use Rattle.engine_rest.proofs.rest.is_line_due.Given as goal
-
-abbrev pub ghost-progress : goal.ghost-progress
-ghost-progress g a = g.on

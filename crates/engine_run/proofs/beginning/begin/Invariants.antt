@@ -1,7 +1,0 @@
-use Rattle.engine_run.proofs.beginning.begin.Given as goal
-
-abbrev pub ghost-new : goal.ghost-new
-ghost-new g a = g.on.started.begun
-
-abbrev pub ghost-begin : goal.ghost-begin
-ghost-begin g a = g.on.started
