@@ -1,0 +1,2 @@
+-- What the opening of a run stands on.
+mod OpeningLemmas
