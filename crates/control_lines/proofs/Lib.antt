@@ -2,3 +2,4 @@
 mod BegunLemmas
 mod LineLemmas
 mod CutLemmas
+mod FeedLemmas

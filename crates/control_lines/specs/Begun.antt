@@ -1,5 +1,5 @@
 -- A line that was begun.
-use Rattle.std.specs.Prelude.{◌≡◌, ℕ, Bool, ◌==◌, not, nat_lt, List, [], ◌∷◌, length, take, reverse, min, Option, Some, None}
+use Rattle.std.specs.Prelude.{◌≡◌, ℕ, suc, ◌<◌, Bool, true, ◌==◌, not, nat_lt, List, [], ◌∷◌, ◌++◌, length, take, drop, reverse, min, Option, Some, None}
 use Rattle.std.specs.List.{list_all}
 use Rattle.edit_script.specs.Reading.{Read, said}
 use Rattle.edit_script.specs.declared.command.Command.{Command}
@@ -27,3 +27,9 @@ IsLast (b ∷ line) answer = answer ≡ Some (said (b ∷ line))
 -- no byte is a line feed
 abbrev pub has_no_feed : List ℕ → Bool
 has_no_feed bytes = list_all (λ b. not (b == 10)) bytes
+
+-- a line of so many bytes ends at the first line feed of these
+pub record IsCutAt (long : ℕ) (bytes : List ℕ) : Type 0 where
+  pub within : long < length bytes
+  pub no_feed : has_no_feed (take long bytes) ≡ true
+  pub feed : bytes ≡ take long bytes ++ 10 ∷ drop (suc long) bytes

@@ -17,6 +17,13 @@ pub(crate) struct BegunLine {
     ghost few: { (many ≤ 4097) × (length kept ≡ 4097) },
 }
 
+/// What a whole line says, by its bytes before the line feed.
+pub(crate) fn said_before_feed(line: &[u8]) -> Result<Command, LineRefusal>
+    ensures { result ≡ said (bare line.now) }
+{
+    parse(line.strip_suffix(b"\r").unwrap_or(line))
+}
+
 impl BegunLine {
     /// A line that has no byte yet.
     pub(crate) fn new() -> BegunLine
@@ -50,8 +57,7 @@ impl BegunLine {
         if self.more {
             return Err(LineRefusal::Long);
         }
-        let line = &self.kept[..self.many];
-        parse(line.strip_suffix(b"\r").unwrap_or(line))
+        said_before_feed(&self.kept[..self.many])
     }
 
     /// What the line says, where the bytes ended after it; none where there is no byte of it.

@@ -1,9 +1,10 @@
 //! Control's bytes, and the lines that they make.
-ghost use Rattle.std.specs.Prelude.{◌≡◌, ◌==◌, ◌<◌, ◌≤◌, [], length, OnOk, OnErr, IfOk};
+ghost use Rattle.std.specs.Prelude.{◌≡◌, ◌==◌, ◌<◌, ◌≤◌, [], length, OnOk, OnErr, IfOk, IfSome, IfNone, Some};
 ghost use Rattle.ses_io.specs.Faults.{HasCause};
+ghost use Rattle.control_lines.specs.Begun.{IsCutAt};
 ghost use Rattle.control_lines.specs.Lines.{at_first, TakesByte, TakesLine, TakesAFront, TakesFront, Fetches, CutsLine, to_come};
 
-use crate::begun::BegunLine;
+use crate::begun::{BegunLine, said_before_feed};
 use edit_script::{Command, LineRefusal};
 use ses_io::{Failed, Source};
 use std::marker::Model;
@@ -60,6 +61,13 @@ fn read_front<C: Source>(
     source.read(&mut piece[..most])
 }
 
+// Where the first line feed stands among bytes.
+fn feed_in(bytes: &[u8]) -> Option<usize>
+    ensures { IfSome result (λ long. IsCutAt long bytes.now) }
+{
+    bytes.iter().position(|byte| *byte == b'\n')
+}
+
 impl<C: Source> ControlLines<C> {
     /// Nothing was read of it yet.
     pub fn new(source: C) -> ControlLines<C>
@@ -114,9 +122,22 @@ impl<C: Source> ControlLines<C> {
         Ok(Some(byte))
     }
 
-    /// What the next line says, or why it isn't read; none at the end. A line that was begun when a read fails is lost, and
-    /// nothing more may be read then. It takes no memory.
-    pub fn next(&mut self) -> Result<Option<Result<Command, LineRefusal>>, Failed>
+    // The next line, where its line feed is among the bytes that wait: it is said where it stands.
+    fn waiting_line(&mut self) -> Option<Result<Command, LineRefusal>>
+        ensures line { IfSome result (λ answer.
+            TakesLine C.outside self.old (Some answer) self.new) }
+        ensures none { IfNone result (self.new ≡ self.old) }
+        ensures source { self.new.source ≡ self.old.source }
+    {
+        let waiting = &self.piece[self.at..self.end];
+        let long = feed_in(waiting)?;
+        let answer = said_before_feed(&waiting[..long]);
+        self.at += long + 1;
+        Some(answer)
+    }
+
+    // What the next line says, byte by byte; none at the end.
+    fn next_by_bytes(&mut self) -> Result<Option<Result<Command, LineRefusal>>, Failed>
         ensures line { IfOk result (λ answer. TakesLine C.outside self.old answer self.new) }
         ensures cuts { C.outside.tells → IfOk result (λ answer.
             CutsLine (to_come C.outside self.old) answer (to_come C.outside self.new)) }
@@ -132,6 +153,22 @@ impl<C: Source> ControlLines<C> {
             line.push(byte);
         }
         Ok(line.last())
+    }
+
+    /// What the next line says, or why it isn't read; none at the end. A line that was begun when a read fails is lost, and
+    /// nothing more may be read then. It takes no memory.
+    pub fn next(&mut self) -> Result<Option<Result<Command, LineRefusal>>, Failed>
+        ensures line { IfOk result (λ answer. TakesLine C.outside self.old answer self.new) }
+        ensures cuts { C.outside.tells → IfOk result (λ answer.
+            CutsLine (to_come C.outside self.old) answer (to_come C.outside self.new)) }
+        ensures cut { OnErr result (TakesAFront C.outside self.old self.new) }
+        ensures cause { HasCause (C.outside.faults self.old.source)
+            (C.outside.faults self.new.source) result }
+    {
+        match self.waiting_line() {
+            Some(answer) => Ok(Some(answer)),
+            None => self.next_by_bytes(),
+        }
     }
 
     /// Whether all bytes were read that may be.

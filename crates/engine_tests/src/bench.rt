@@ -2,21 +2,16 @@
 use edition_log::{Edition, Refusal};
 use ses_io::{MemMedia, NoMemory};
 use session_model::{Edit, Key, Part, Place, SessionRefusal};
-use session_opening::{Export, Loaded, open};
+use session_opening::{Loaded, open};
 use std::alloc::Global;
 use std::process::Abort;
 
 /// A file of a media: its name, and its bytes in parts.
+#[derive(Clone, Copy)]
 pub(crate) struct File {
     pub(crate) name: &'static str,
     pub(crate) parts: &'static [&'static [u8]],
 }
-
-const EXPORT: Export<'static> = Export {
-    session: "s.toml",
-    from: 0,
-    cycles: 2,
-};
 
 fn joined(alloc: Global, parts: &[&[u8]]) -> Result<Vec<u8>, NoMemory> {
     let mut whole = Vec::new(alloc);
@@ -68,7 +63,7 @@ pub(crate) fn opening(alloc: Global, files: &[File]) -> Option<Edition> {
     let Ok(mut media) = media_of(alloc, files) else {
         return None;
     };
-    match open(alloc, &mut media, &EXPORT) {
+    match open(alloc, &mut media, "s.toml") {
         Ok(
             Loaded {
                 edition,

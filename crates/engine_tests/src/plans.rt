@@ -3,11 +3,12 @@ mod rows;
 
 use crate::bench::{block_range, failing_media, row_holds};
 use audio_source::FileRefusal;
+use command_words::{Command, command};
 use rows::{Answer, ROWS, Row};
 use ses_io::{MemMedia, NoMemory};
 use ses_units::Name;
 use session_model::SessionRefusal;
-use session_opening::{Command, Export, Loaded, Unopened, command, open};
+use session_opening::{Loaded, Unopened, open};
 use std::alloc::Global;
 
 // Whether blocks have four frames, and the first source one channel.
@@ -41,9 +42,9 @@ fn refuses(why: Unopened, answer: &Answer) -> bool {
     }
 }
 
-// Whether an export over that media is answered so.
-fn answers(alloc: Global, media: &mut MemMedia, export: &Export<'_>, answer: &Answer) -> bool {
-    match open(alloc, media, export) {
+// Whether the session of that name is opened over that media so.
+fn answers(alloc: Global, media: &mut MemMedia, session: &str, answer: &Answer) -> bool {
+    match open(alloc, media, session) {
         Ok(loaded) => matches!(*answer, Answer::Opens) && is_base(&loaded),
         Err(why) => refuses(why, answer),
     }
@@ -55,7 +56,7 @@ fn is_right(alloc: Global, row: &Row) -> Result<bool, NoMemory> {
     };
     let read = export.from == row.position && export.cycles == 2;
     let mut media = failing_media(alloc, row.files, row.bad_reads)?;
-    Ok(read && answers(alloc, &mut media, &export, &row.answer))
+    Ok(read && answers(alloc, &mut media, export.session, &row.answer))
 }
 
 #[test]

@@ -8,6 +8,7 @@ mod of_bits;
 mod played;
 mod refused;
 mod rendered;
+mod reported;
 mod row;
 mod stems;
 
@@ -22,6 +23,7 @@ use of_bits::OF_BITS;
 use played::PLAYED;
 use refused::REFUSED;
 use rendered::RENDERED;
+use reported::report_of;
 use row::{Ends, Row};
 use ses_io::{MemMedia, MemSink, MemSource, NoMemory, World};
 use ses_units::Name;
@@ -103,6 +105,14 @@ fn are_joined(bytes: &[u8], parts: &[&[u8]]) -> bool {
     rest.is_empty()
 }
 
+// Whether these bytes are the first of two texts and then the second.
+fn are_both(bytes: &[u8], first: &[u8], second: &[u8]) -> bool {
+    if bytes.len() < first.len() || &bytes[..first.len()] != first {
+        return false;
+    }
+    &bytes[first.len()..] == second
+}
+
 fn has_played(ended: &Ended, row: &Row) -> bool {
     match &ended.journal {
         None => row.states.is_empty(),
@@ -110,21 +120,30 @@ fn has_played(ended: &Ended, row: &Row) -> bool {
     }
 }
 
-fn leaves(ended: &Ended, row: &Row) -> bool {
+// The report of a row; nothing where it has none.
+fn report_by(alloc: Global, row: &Row) -> Result<String, NoMemory> {
+    match &row.report {
+        Some(form) => report_of(alloc, form, row.states.len(), row.notes.len()),
+        None => Ok(String::new(alloc)),
+    }
+}
+
+fn leaves(ended: &Ended, row: &Row, report: &str) -> bool {
     ended.status == status_of(&row.ends)
         && ended.status.number() == row.number
-        && ended.world.out.bytes() == row.out
+        && are_both(ended.world.out.bytes(), report.as_bytes(), row.out)
         && has_played(ended, row)
         && are_joined(ended.world.master.bytes(), row.master)
 }
 
 // Whether a run of the words of a row leaves what it says.
-fn ran<R>(rt: &R, alloc: Global, world: Memory, row: &Row) -> bool
+fn ran<R>(rt: &R, alloc: Global, world: Memory, row: &Row) -> Result<bool, NoMemory>
 where
     R: Threads + Wait + Sync,
 {
+    let report = report_by(alloc, row)?;
     let ended = run(rt, alloc, row.words, world);
-    leaves(&ended, row)
+    Ok(leaves(&ended, row, report.as_str()))
 }
 
 fn is_right<R>(rt: &R, alloc: Global, row: &Row) -> Result<bool, NoMemory>
@@ -132,7 +151,7 @@ where
     R: Threads + Wait + Sync,
 {
     let world = given(alloc, row)?;
-    Ok(ran(rt, alloc, world, row))
+    ran(rt, alloc, world, row)
 }
 
 // The same, where the session's file is first written anew by a migrate.
@@ -144,7 +163,7 @@ where
     let mut world = run(rt, alloc, &["migrate", "s.toml"], world).world;
     world.media.put("s.toml", world.out.bytes().to_vec(alloc)?)?;
     world.out = MemSink::new(alloc, Vec::new(alloc));
-    Ok(ran(rt, alloc, world, row))
+    ran(rt, alloc, world, row)
 }
 
 #[test]

@@ -1,9 +1,11 @@
-//! Values from outside for WAV files, the parts of sessions, their texts, the lines of errors, and reports,
+//! Values from outside for WAV files, heads of inputs, the parts of sessions, their texts, the lines of errors, and reports,
 //! written and read.
 #![tactic(auto)]
 
 #[cfg(test)]
 mod error_lines;
+#[cfg(test)]
+mod input_heads;
 #[cfg(test)]
 mod parts;
 #[cfg(test)]

@@ -62,7 +62,7 @@ fn write_line(text: &mut Vec<u8>, words: &str) -> Result<(), NoMemory> {
 }
 
 /// The base text with some of its lines in other words.
-fn edited(alloc: Global, edits: &str) -> Result<Vec<u8>, NoMemory> {
+pub(crate) fn edited(alloc: Global, edits: &str) -> Result<Vec<u8>, NoMemory> {
     let mut text = Vec::new(alloc);
     for (i, own) in BASE.iter().enumerate() {
         write_line(&mut text, line_in(edits, i + 1, own))?;

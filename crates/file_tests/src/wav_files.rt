@@ -12,6 +12,7 @@ ghost use Rattle.wav_codec.specs.Info.{head_of};
 ghost use Rattle.wav_codec.specs.Progress.{HasSize};
 ghost use Rattle.wav_codec.specs.Refusal.{refusal_of};
 
+pub(crate) use samples::BASE;
 use wav_codec::{Scan, Step, WavInfo, WavRefusal};
 
 // So many bytes of a file from a place on, fewer where it ends.

@@ -18,6 +18,7 @@ use ses_io::{Failed, Sink, write_all};
 use session_model::Session;
 use std::alloc::Global;
 use std::marker::Model;
+use std::mem::replace;
 use wav_codec::{WavForm, encode, header};
 
 /// The master of a run. Contracts see it as a record of `specs/State.antt`. Only `new` takes
@@ -182,6 +183,14 @@ impl<W: Sink> MasterBlocks<W> {
             write_all(&mut self.sink, &[0])?;
         }
         Ok(())
+    }
+
+    /// Gives back what has taken the bytes so far, and has another one take those that follow.
+    pub fn replace_sink(&mut self, sink: W) -> W
+        ensures back { result ≡ self.old.sink }
+        ensures same { self.new ≡ record self.old { sink = sink } }
+    {
+        replace(&mut self.sink, sink)
     }
 
     /// What takes the bytes.

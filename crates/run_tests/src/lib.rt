@@ -1,19 +1,11 @@
-//! Worked runs of a recorder on one thread, in memory: by control lines and letters, and with each object of the outside failing once.
+//! Worked runs of a recorder on one thread, in memory: by words, control lines and letters, with takes, and with hostile control.
 #![tactic(auto)]
 
 #[cfg(test)]
-mod faults;
-#[cfg(test)]
 mod hostile;
-#[cfg(test)]
-mod opening;
-#[cfg(test)]
-mod row;
 #[cfg(test)]
 mod rows;
 #[cfg(test)]
 mod runs;
 #[cfg(test)]
-mod wav;
-#[cfg(test)]
-mod world;
+mod seeds;

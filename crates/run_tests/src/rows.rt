@@ -1,12 +1,12 @@
 //! Rows that were worked out by hand.
 mod controlled;
-mod failing;
 mod lettered;
 mod recorded;
 mod serial;
+mod worded;
 
 pub(crate) use controlled::CONTROLLED;
-pub(crate) use failing::FAILING;
 pub(crate) use lettered::LETTERED;
-pub(crate) use recorded::{ONE_TAKE, RECORDED};
-pub(crate) use serial::{EXPORT, SERIALLY, WAIT_THEN_LOCATE};
+pub(crate) use recorded::RECORDED;
+pub(crate) use serial::SERIALLY;
+pub(crate) use worded::WORDED;

@@ -1,4 +1,4 @@
--- What is opened can be played, and a source that is refused is the first.
+-- What is opened is valid, and a source that is refused is the first.
 use Rattle.std.proofs.Common.{◌≡◌, ℕ, refl, ap, subst, Bool, true, false, cond, nat_lt, List, length, Option, Some, None}
 use Rattle.std.specs.Prelude.{Ok, Err}
 use Rattle.session_model.specs.declared.session.Session.{Session}
@@ -7,8 +7,8 @@ use Rattle.session_model.specs.Valid.{IsValid}
 use Rattle.session_walk.specs.Section.{Read}
 use Rattle.session_toml.specs.Session.{session}
 use Rattle.session_toml.proofs.SessionLaws.{accepted_is_valid}
-use Rattle.session_opening.specs.Laws.{IsOpen, IsPlayable, FirstOf, OpenIsValid, PlanIsPlayable, RefusedIsFirst}
-use Rattle.session_opening.specs.Plan.{◌>>=◌, Open, Plan, Wrong, SessionRefused, SourceRefused, text_in, read, read_session, session_plan, sources_in, plan_of_export}
+use Rattle.session_opening.specs.Laws.{IsOpen, FirstOf, OpenIsValid, RefusedIsFirst}
+use Rattle.session_opening.specs.Plan.{◌>>=◌, Open, Wrong, SessionRefused, SourceRefused, text_in, read, read_session, session_plan, sources_in}
 use Rattle.session_opening.proofs.SourceLaws.{each_head, first_of}
 
 -- what came first, and what it went on to
@@ -28,15 +28,6 @@ read_of_bytes file s e = let text = after (text_in file) _ s e in (text.0, read_
 -- the session of a file is valid
 session_is : (file : Option (List ℕ)) (s : Session) → read_session file ≡ Ok s → IsValid s
 session_is file s e = let text = read_of_bytes file s e in accepted_is_valid text.0 s text.1
-
-pub plan_is_playable : PlanIsPlayable
-unfolding plan_of_export
-plan_is_playable files e o is =
-    let s = after (read_session (files e.session)) _ o is in
-    let u = after (sources_in files s.0.rate s.0.sources.items) _ o s.2 in
-    let K : Plan → Type 0 = λ p. IsPlayable files e p in
-    let same : record { session = s.0; from = e.from; cycles = e.cycles } ≡ o = cc in
-    subst K same (record { session = s.1; from = refl; cycles = refl; valid = session_is (files e.session) s.0 s.1; heads = each_head files s.0.rate s.0.sources.items u.1 })
 
 pub open_is_valid : OpenIsValid
 unfolding session_plan
@@ -75,23 +66,23 @@ none_in_session file = none_then (text_in file) _ (text file) (λ t. reads (sess
     reads (Err refusal) = tt
 
 pub refused_is_first : RefusedIsFirst
-unfolding plan_of_export
-refused_is_first files e name why is = by_session (read_session (files e.session)) refl is
+unfolding session_plan
+refused_is_first files name called why is = by_session (read_session (files name)) refl is
   where
-    end : Session → Open Plan
-    end s = Ok (record { session = s; from = e.from; cycles = e.cycles })
+    end : Session → Open Session
+    end s = Ok s
 
-    rest : Session → Open Plan
+    rest : Session → Open Session
     rest s = sources_in files s.rate s.sources.items >>= λ u. end s
 
-    err_only : (s : Session) (r : Open (Unit {0})) → (r >>= λ u. end s) ≡ Err (SourceRefused name why) → r ≡ Err (SourceRefused name why)
+    err_only : (s : Session) (r : Open (Unit {0})) → (r >>= λ u. end s) ≡ Err (SourceRefused called why) → r ≡ Err (SourceRefused called why)
     err_only s (Ok u) e = absurd cc
     err_only s (Err w) e = cc
 
-    by_session : (r : Open Session) → read_session (files e.session) ≡ r → (r >>= rest) ≡ Err (SourceRefused name why) → (s : Session) × FirstOf files e name why s
+    by_session : (r : Open Session) → read_session (files name) ≡ r → (r >>= rest) ≡ Err (SourceRefused called why) → (s : Session) × FirstOf files name called why s
     by_session (Ok s) there h =
-        (s, record { session = there; valid = session_is (files e.session) s there; first = first_of files s.rate s.sources.items name why (err_only s (sources_in files s.rate s.sources.items) h) })
-    by_session (Err w) there h = absurd (no_source w (let K : Open Session → Type 0 = λ v. NoSourceIn v in subst K there (none_in_session (files e.session))) cc)
+        (s, record { session = there; valid = session_is (files name) s there; first = first_of files s.rate s.sources.items called why (err_only s (sources_in files s.rate s.sources.items) h) })
+    by_session (Err w) there h = absurd (no_source w (let K : Open Session → Type 0 = λ v. NoSourceIn v in subst K there (none_in_session (files name))) cc)
       where
-        no_source : (v : Wrong) → NoSourceIn {A = Session} (Err v) → v ≡ SourceRefused name why → ⊥
+        no_source : (v : Wrong) → NoSourceIn {A = Session} (Err v) → v ≡ SourceRefused called why → ⊥
         no_source v never same = let K : Wrong → Type 0 = λ x. NoSourceIn {A = Session} (Err x) in subst K same never

@@ -21,8 +21,7 @@ use Rattle.session_opening.specs.declared.no_session.NoSession.TheVariants as no
 use Rattle.session_opening.specs.declared.reading.Unread.{Unread}
 use Rattle.session_opening.specs.declared.reading.Unread.TheVariants as unread
 use Rattle.session_opening.specs.Plan as wrong
-use Rattle.session_opening.specs.Plan.{Open, Plan}
-use Rattle.session_opening.specs.Words.{Export}
+use Rattle.session_opening.specs.Plan.{Open}
 
 -- ---- exactly what is opened
 
@@ -52,10 +51,6 @@ IsRead s = (text : List ℕ) × (read_as text ≡ Ok s)
 abbrev pub GivesSession : {A B : Type 0} → (B → A) → Open A → Result B NoSession → Type 0
 GivesSession view given (Ok b) = given ≡ Ok (view b)
 GivesSession view given (Err why) = Refuses given (unopened why)
-
--- an opening of an export, as the definition has it
-abbrev pub plan_from : Export → Loaded → Plan
-plan_from e o = record { session = o.edition.session; from = e.from; cycles = e.cycles }
 
 -- ---- what is opened, for every media
 

@@ -5,20 +5,7 @@ use Rattle.session_model.specs.declared.session.Session.{Session}
 use Rattle.session_model.specs.declared.session.SourceDecl.{SourceDecl}
 use Rattle.session_model.specs.Valid.{IsValid}
 use Rattle.audio_source.specs.Refusals.{SourceRefusal, source_head}
-use Rattle.session_opening.specs.Plan.{Plan, SourceRefused, plan_of_export, read_session, session_plan}
-use Rattle.session_opening.specs.Words.{Export}
-
--- What can be played: the session of the export's file, which is valid, and each source's file has its head.
-pub record IsPlayable (files : Files) (e : Export) (o : Plan) : Type 0 where
-  pub session : read_session (files e.session) ≡ Ok o.session
-  pub from : o.from ≡ e.from
-  pub cycles : o.cycles ≡ e.cycles
-  pub valid : IsValid o.session
-  pub heads : (i : ℕ) (d : SourceDecl) → slice_get o.session.sources.items i ≡ Some d → IsOk (source_head o.session.rate d.channels (files d.file))
-
--- what is opened can be played
-abbrev pub PlanIsPlayable : Type 0
-PlanIsPlayable = (files : Files) (e : Export) (o : Plan) → plan_of_export files e ≡ Ok o → IsPlayable files e o
+use Rattle.session_opening.specs.Plan.{SourceRefused, read_session, session_plan}
 
 -- A session that is opened: it is that of its file and valid, and each source's file has its head.
 pub record IsOpen (files : Files) (name : List ℕ) (s : Session) : Type 0 where
@@ -38,12 +25,12 @@ pub record IsFirst (files : Files) (rate : ℕ) (list : List SourceDecl) (called
   pub before : (i : ℕ) (q : SourceDecl) → i < place → slice_get list i ≡ Some q → IsOk (source_head rate q.channels (files q.file))
 
 -- A source of this session isn't opened, the first of them.
-pub record FirstOf (files : Files) (e : Export) (name : List ℕ) (why : SourceRefusal) (s : Session) : Type 0 where
-  pub session : read_session (files e.session) ≡ Ok s
+pub record FirstOf (files : Files) (name called : List ℕ) (why : SourceRefusal) (s : Session) : Type 0 where
+  pub session : read_session (files name) ≡ Ok s
   pub valid : IsValid s
-  pub first : (place : ℕ) × (d : SourceDecl) × IsFirst files s.rate s.sources.items name why place d
+  pub first : (place : ℕ) × (d : SourceDecl) × IsFirst files s.rate s.sources.items called why place d
 
 -- a source is refused only of a session that is valid, and it is the first
 abbrev pub RefusedIsFirst : Type 0
-RefusedIsFirst = (files : Files) (e : Export) (name : List ℕ) (why : SourceRefusal) → plan_of_export files e ≡ Err (SourceRefused name why) →
-    (s : Session) × FirstOf files e name why s
+RefusedIsFirst = (files : Files) (name called : List ℕ) (why : SourceRefusal) → session_plan files name ≡ Err (SourceRefused called why) →
+    (s : Session) × FirstOf files name called why s

@@ -1,4 +1,4 @@
--- What an export opens, or the first thing that keeps it from being opened, by its words and the files (own).
+-- What the name of a session opens, or the first thing that keeps it from being opened, by the files (own).
 use Rattle.std.specs.Prelude.{ℕ, nat_lt, if◌then◌else◌, List, [], ◌∷◌, length, Option, Some, None, Result, Ok, Err}
 use Rattle.sound_model.specs.Wav.{Head}
 use Rattle.ses_io.specs.Files.{Files}
@@ -9,7 +9,6 @@ use Rattle.session_model.specs.declared.session.SourceDecl.{SourceDecl}
 use Rattle.session_walk.specs.Section.{Read}
 use Rattle.session_toml.specs.Session.{session}
 use Rattle.audio_source.specs.Refusals.{SourceRefusal, source_head}
-use Rattle.session_opening.specs.Words.{Export}
 
 pub data Wrong : Type 0 where
   -- the session's file is absent or too long, or its text breaks this rule
@@ -65,16 +64,3 @@ session_plan files name = do
   s ← read_session (files name)
   sources ← sources_in files s.rate s.sources.items
   Ok s
-
-pub record Plan : Type 0 where
-  pub session : Session
-  -- the first position, in frames
-  pub from : ℕ
-  pub cycles : ℕ
-
--- what an export opens
-unfoldable pub plan_of_export : Files → Export → Open Plan
-plan_of_export files e = do
-  s ← read_session (files e.session)
-  sources ← sources_in files s.rate s.sources.items
-  Ok (record { session = s; from = e.from; cycles = e.cycles })

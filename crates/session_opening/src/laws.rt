@@ -1,11 +1,5 @@
-//! What holds of all that is opened, and of each source that is refused.
-ghost use Rattle.session_opening.specs.Laws.{OpenIsValid, PlanIsPlayable, RefusedIsFirst};
-
-/// What is opened can be played: its session is valid, and the file of each source has a head of the session's rate and
-/// the source's channels.
-pub fn plan_is_playable()
-    ensures { PlanIsPlayable }
-{}
+//! What holds of each session that is opened, and of each source that is refused.
+ghost use Rattle.session_opening.specs.Laws.{OpenIsValid, RefusedIsFirst};
 
 /// A session that is opened is valid, and the file of each source has a head of the session's rate and the source's
 /// channels.

@@ -1,13 +1,11 @@
-//! What an export plays: edition 0 of its session, and its sources, or the first thing that is wrong.
+//! What a run plays: edition 0 of its session, and its sources, or the first thing that is wrong.
 ghost use Rattle.std.specs.Prelude.{◌≡◌, [], IfOk};
 ghost use Rattle.session_model.specs.Valid.{IsValid};
 ghost use Rattle.audio_source.specs.Opened.{IsListed, IsOpened};
-ghost use Rattle.session_opening.specs.Answers.{Gives, GivesSession, IsRead, IsLoaded, HasHeads, Caused, CausedSession, plan_from, refusal_at};
+ghost use Rattle.session_opening.specs.Answers.{Gives, GivesSession, IsRead, IsLoaded, HasHeads, Caused, CausedSession, refusal_at};
 ghost use Rattle.session_opening.specs.Plan as spec;
-ghost use Rattle.session_opening.specs.Spoken.{export_view};
 ghost use Rattle.ses_io.specs.Outside.{OnlyReads};
 
-use crate::asked::Export;
 use crate::no_session::NoSession;
 use crate::reading::read_whole;
 use crate::unopened::Unopened;
@@ -19,7 +17,7 @@ use session_model::{Session, SessionRefusal, SourceDecl};
 use session_toml::session_of;
 use std::alloc::Global;
 
-/// What an export plays.
+/// What a run plays.
 #[derive(Drop)]
 pub struct Loaded {
     /// Edition 0 of the session.
@@ -133,20 +131,17 @@ pub fn open_session<M: Media>(alloc: Global, media: &mut M, name: &str) -> Resul
     Ok(Opened { session, sources })
 }
 
-/// Opens what an export plays: its session, and the files of its sources, by their heads. What is wrong is told in this
-/// order: the session's file, its text, the first source, in their order, whose file isn't opened. It takes the memory of
-/// the session, of its editions and of all later reads of the sources.
-#[tactic(auto, unfolding(crate::specs::Plan::plan_of_export))]
-pub fn open<M: Media>(alloc: Global, media: &mut M, export: &Export<'_>) -> Result<Loaded, Unopened>
-    ensures told { M.outside.tells → Gives (plan_from (export_view export.now))
-        (spec.plan_of_export (M.outside.files media.old) (export_view export.now)) result }
+/// Opens what a run plays: edition 0 of the session of that name, and its sources. What is wrong is told as `open_session`
+/// tells it. It takes the memory of the session, of its editions and of all later reads of the sources.
+pub fn open<M: Media>(alloc: Global, media: &mut M, name: &str) -> Result<Loaded, Unopened>
+    ensures told { M.outside.tells → Gives (λ l. l.edition.session)
+        (spec.session_plan (M.outside.files media.old) name.now) result }
     ensures played { IfOk result IsLoaded }
     ensures heads { M.outside.tells → IfOk result (HasHeads (M.outside.files media.old)) }
     ensures only_reads { OnlyReads M.outside media.old media.new }
     ensures cause { Caused M.outside media.old media.new result }
 {
-    let session = read_session(alloc, media, export.session)?;
-    let sources = sources_in(alloc, media, &session)?;
+    let Opened { session, sources } = open_session(alloc, media, name)?;
     let edition = Edition::opening(alloc, session)?;
     Ok(Loaded { edition, sources })
 }

@@ -1,11 +1,11 @@
-//! Why an export isn't played.
+//! Why a session isn't opened with its sources.
 use crate::no_session::NoSession;
 use audio_source::FileRefusal;
 use ses_io::NoMemory;
 use ses_units::Name;
 use session_model::SessionRefusal;
 
-/// Why an export isn't played: the first of these that holds. ReadFault and NoMemory may stand in place of each.
+/// Why a session isn't opened with its sources: the first of these that holds. ReadFault and NoMemory may stand in place of each.
 #[derive(Clone, Copy, PartialEq, Eq)]
 pub enum Unopened {
     /// The session's file is absent or too long, or its text breaks this rule.

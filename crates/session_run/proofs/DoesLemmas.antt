@@ -1,24 +1,19 @@
 -- What a command does, by what was asked for.
 use Rattle.std.proofs.Common.{◌≡◌, List, ℕ, [], ◌∷◌, ◌++◌, refl, sym, ap, subst, ◌∙◌, arith}
-use Rattle.std.specs.Prelude.{Option, Some, None, Err}
-use Rattle.ses_io.specs.Outside.{MediaOutside, SinkOutside, OnlyReads}
+use Rattle.std.specs.Prelude.{Option, Some, None}
+use Rattle.ses_io.specs.Outside.{MediaOutside, SourceOutside, SinkOutside, OnlyReads}
 use Rattle.ses_io.specs.declared.world.World.{World}
 use Rattle.cycle_journal.specs.declared.status.Status.{Status}
 use Rattle.cycle_journal.specs.declared.status.Status.TheVariants.{Done, Usage, MasterFault, OutFault, ReadFault}
-use Rattle.session_opening.specs.Answers.{Caused, Refuses}
-use Rattle.session_opening.specs.Plan.{plan_of_export}
-use Rattle.session_opening.specs.Words.{Command, Export, Render, ToExport, ToMigrate, ToCheck, ToRender}
-use Rattle.session_opening.specs.declared.unopened.Unopened.{Unopened}
-use Rattle.session_run.specs.declared.outcome.Outcome.{Outcome}
+use Rattle.command_words.specs.Words.{Render}
+use Rattle.session_play.specs.declared.outcome.Outcome.{Outcome}
 use Rattle.session_run.specs.Carried.{CarriesOut}
-use Rattle.session_run.specs.Exported.{AllStayOpen}
-use Rattle.session_run.specs.Headline.{EndsAsAsked, LeavesTheMaster, MasterIsAsAsked, PlaysAnExport}
+use Rattle.session_run.specs.Headline.{EndsAsAsked, LeavesTheMaster, PlaysAsAsked, RendersAsAsked}
 use Rattle.session_run.specs.Rendered.{GetsTheRender}
 use Rattle.session_run.specs.Replied.{IsOwnText, WritesItsOwn}
-use Rattle.session_run.specs.Status.{IsOfRender, IsStatusOf, PlaysAsAsked, ReadsFailed, WritesFailed, status_of}
+use Rattle.session_run.specs.Status.{IsOfRender, IsStatusOf, ReadsFailed, WritesFailed}
+use Rattle.session_run.specs.Tasks.{Task, Runs, Migrates, Checks, Renders}
 use Rattle.session_run.proofs.OutLemmas.{none_written}
-use Rattle.session_run.proofs.PlayedLemmas as plays
-use Rattle.session_run.proofs.PlayedLemmas.{Exports}
 use Rattle.session_run.proofs.StatusLemmas as status
 
 usage_done : Usage ≡ Done → ⊥
@@ -41,67 +36,58 @@ append_none (x ∷ xs) = ap (λ ys. x ∷ ys) (append_none xs)
 pub kept : (fault : Status) (before now : ℕ) (s : Status) → (s ≡ fault → ⊥) → now ≡ before → WritesFailed fault before now s
 kept fault before now s not same = record { cause = λ is. absurd (not is); same = λ _. same; later = omega (arith, same) }
 
-module _ {M I C W O : Type 0} (outside : MediaOutside M) (sink : SinkOutside W) (out : SinkOutside O) (old : World M I C W O) (new : Outcome M I C W O) where
+module _ {M I C W O : Type 0} (outside : MediaOutside M) (inputs : SourceOutside I) (controls : SourceOutside C) (sink : SinkOutside W) (out : SinkOutside O) (old : World M I C W O) (new : Outcome M I C W O) where
   -- ---- what leaves the master alone
 
-  not_played : (asked : Option Command) → LeavesTheMaster asked → new.journal ≡ None → MasterIsAsAsked outside sink old asked new
-  not_played (Some (ToExport e)) other journal = absurd other
-  not_played (Some (ToMigrate name)) other journal = journal
-  not_played (Some (ToCheck name)) other journal = journal
-  not_played (Some (ToRender r)) other journal = absurd other
-  not_played None other journal = journal
+  not_rendered : (asked : Option Task) → LeavesTheMaster asked → RendersAsAsked outside sink old asked new
+  not_rendered (Some (Runs r)) other = absurd other
+  not_rendered (Some (Migrates name)) other = tt
+  not_rendered (Some (Checks name)) other = tt
+  not_rendered (Some (Renders r)) other = absurd other
+  not_rendered None other = tt
 
-  not_alone : (asked : Option Command) → LeavesTheMaster asked → new.journal ≡ None → PlaysAnExport sink old asked new
-  not_alone (Some (ToExport e)) other journal = absurd other
-  not_alone (Some (ToMigrate name)) other journal = journal
-  not_alone (Some (ToCheck name)) other journal = journal
-  not_alone (Some (ToRender r)) other journal = absurd other
-  not_alone None other journal = journal
-
-  no_rings : (asked : Option Command) → LeavesTheMaster asked → new.journal ≡ None → new.rings.items ≡ [] → new.acks ≡ None → PlaysAsAsked old asked new
-  no_rings (Some (ToExport e)) other journal rings acks = absurd other
-  no_rings (Some (ToMigrate name)) other journal rings acks = record { journal = journal; rings = rings; acks = acks }
-  no_rings (Some (ToCheck name)) other journal rings acks = record { journal = journal; rings = rings; acks = acks }
-  no_rings (Some (ToRender r)) other journal rings acks = absurd other
+  no_rings : (asked : Option Task) → LeavesTheMaster asked → new.journal ≡ None → new.rings.items ≡ [] → new.acks ≡ None → PlaysAsAsked outside inputs controls sink out old asked new
+  no_rings (Some (Runs r)) other journal rings acks = absurd other
+  no_rings (Some (Migrates name)) other journal rings acks = record { journal = journal; rings = rings; acks = acks }
+  no_rings (Some (Checks name)) other journal rings acks = record { journal = journal; rings = rings; acks = acks }
+  no_rings (Some (Renders r)) other journal rings acks = absurd other
   no_rings None other journal rings acks = record { journal = journal; rings = rings; acks = acks }
 
   -- what reads the media and writes to out alone
-  pub of_unplayed : (asked : Option Command) → LeavesTheMaster asked → (media : M) (o : O) (s : Status) → (outside.tells → EndsAsAsked outside old asked s) → IsStatusOf asked s → (s ≡ MasterFault → ⊥) →
+  pub of_unplayed : (asked : Option Task) → LeavesTheMaster asked → (media : M) (o : O) (s : Status) → EndsAsAsked outside inputs old asked s → IsStatusOf asked s → (s ≡ MasterFault → ⊥) →
       WritesItsOwn out (IsOwnText outside old.media asked) old.out o s → ReadsFailed (outside.read_faults old.media) (outside.read_faults media) s → WritesFailed OutFault (out.faults old.out) (out.faults o) s →
       OnlyReads outside old.media media → new.status ≡ s → new.world ≡ record old { media = media; out = o } → new.journal ≡ None → new.rings.items ≡ [] → new.acks ≡ None →
-      CarriesOut outside sink out old asked new
+      CarriesOut outside inputs controls sink out old asked new
   of_unplayed asked other media o s ends of not_master own reads writes only says world journal rings acks =
       let master_is : new.world.master ≡ old.master = ap (λ (w : World M I C W O). w.master) world in
       let media_is : new.world.media ≡ media = ap (λ (w : World M I C W O). w.media) world in
       let out_is : new.world.out ≡ o = ap (λ (w : World M I C W O). w.out) world in
       record {
-        ends = λ t. subst (EndsAsAsked outside old asked) (sym says) (ends t);
+        ends = subst (EndsAsAsked outside inputs old asked) (sym says) ends;
         status = subst (IsStatusOf asked) (sym says) of;
-        sounds = λ t. not_played asked other journal;
-        alone = not_alone asked other journal;
+        played = no_rings asked other journal rings acks;
+        rendered = λ t. not_rendered asked other;
         own = subst (λ (q : O). WritesItsOwn out (IsOwnText outside old.media asked) old.out q new.status) (sym out_is) (subst (WritesItsOwn out (IsOwnText outside old.media asked) old.out o) (sym says) own);
         silent = λ some. absurd (some other);
         reads = subst (λ (m : M). ReadsFailed (outside.read_faults old.media) (outside.read_faults m) new.status) (sym media_is) (subst (ReadsFailed (outside.read_faults old.media) (outside.read_faults media)) (sym says) reads);
         writes = kept MasterFault (sink.faults old.master) (sink.faults new.world.master) new.status (λ is. not_master (sym says ∙ is)) (ap (λ (m : W). sink.faults m) master_is);
         replies = subst (λ (q : O). WritesFailed OutFault (out.faults old.out) (out.faults q) new.status) (sym out_is) (subst (WritesFailed OutFault (out.faults old.out) (out.faults o)) (sym says) writes);
-        still_open = λ still. subst AllStayOpen (sym rings) plays.none_open;
-        played = no_rings asked other journal rings acks;
         files = subst (λ (m : M). OnlyReads outside old.media m) (sym media_is) only;
         input = ap (λ (w : World M I C W O). w.input) world;
         control = ap (λ (w : World M I C W O). w.control) world;
-        unplayed = λ _. master_is;
+        unwritten = λ _. master_is;
       }
 
   -- the words are no command
-  pub no_command : new.status ≡ Usage → new.world ≡ old → new.journal ≡ None → new.rings.items ≡ [] → new.acks ≡ None → CarriesOut outside sink out old None new
-  no_command says world = of_unplayed None tt old.media old.out Usage (λ t. refl) refl usage_master
+  pub no_command : new.status ≡ Usage → new.world ≡ old → new.journal ≡ None → new.rings.items ≡ [] → new.acks ≡ None → CarriesOut outside inputs controls sink out old None new
+  no_command says world = of_unplayed None tt old.media old.out Usage refl refl usage_master
       (none_written out (IsOwnText outside old.media None) old.out old.out Usage usage_done usage_out refl)
       (status.quiet (outside.read_faults old.media) (outside.read_faults old.media) Usage refl usage_read)
       (kept OutFault (out.faults old.out) (out.faults old.out) Usage usage_out refl) (record { files = refl; other_count = refl }) says world
 
   -- ---- what writes nothing to out
 
-  nothing_said : (asked : Option Command) → IsOwnText outside old.media asked [] → (new.status ≡ OutFault → ⊥) → new.world.out ≡ old.out → WritesItsOwn out (IsOwnText outside old.media asked) old.out new.world.out new.status
+  nothing_said : (asked : Option Task) → IsOwnText outside old.media asked [] → (new.status ≡ OutFault → ⊥) → new.world.out ≡ old.out → WritesItsOwn out (IsOwnText outside old.media asked) old.out new.world.out new.status
   nothing_said asked is_own not_out same = record {
     done = λ _. ([], is_own, record { held = λ t. ap (λ (o : O). out.held o) same ∙ append_none (out.held old.out); fine = ap (λ (o : O). out.faults o) same });
     cut_off = λ is. absurd (not_out is);
@@ -109,26 +95,24 @@ module _ {M I C W O : Type 0} (outside : MediaOutside M) (sink : SinkOutside W) 
   }
 
   -- a render, which reads the media and writes to the master alone
-  pub of_render : (r : Render) (media : M) (master : W) (s : Status) → (outside.tells → EndsAsAsked outside old (Some (ToRender r)) s) → IsOfRender s → (outside.tells → GetsTheRender outside old.media sink r old.master master s) →
+  pub of_render : (r : Render) (media : M) (master : W) (s : Status) → EndsAsAsked outside inputs old (Some (Renders r)) s → IsOfRender s → (outside.tells → GetsTheRender outside old.media sink r old.master master s) →
       ((s ≡ Done → ⊥) → (s ≡ MasterFault → ⊥) → (s ≡ ReadFault → ⊥) → master ≡ old.master) → ReadsFailed (outside.read_faults old.media) (outside.read_faults media) s →
       WritesFailed MasterFault (sink.faults old.master) (sink.faults master) s → OnlyReads outside old.media media → new.status ≡ s → new.world ≡ record old { media = media; master = master } →
-      new.journal ≡ None → new.rings.items ≡ [] → new.acks ≡ None → CarriesOut outside sink out old (Some (ToRender r)) new
+      new.journal ≡ None → new.rings.items ≡ [] → new.acks ≡ None → CarriesOut outside inputs controls sink out old (Some (Renders r)) new
   of_render r media master s ends of gets refused reads writes only says world journal rings acks =
       let master_is : new.world.master ≡ master = ap (λ (w : World M I C W O). w.master) world in
       let media_is : new.world.media ≡ media = ap (λ (w : World M I C W O). w.media) world in
       let out_is : new.world.out ≡ old.out = ap (λ (w : World M I C W O). w.out) world in
       let of_new : IsOfRender new.status = subst IsOfRender (sym says) of in
       record {
-        ends = λ t. subst (EndsAsAsked outside old (Some (ToRender r))) (sym says) (ends t);
+        ends = subst (EndsAsAsked outside inputs old (Some (Renders r))) (sym says) ends;
         status = of_new;
-        sounds = λ t. subst (λ (m : W). GetsTheRender outside old.media sink r old.master m new.status) (sym master_is) (subst (GetsTheRender outside old.media sink r old.master master) (sym says) (gets t));
-        alone = journal;
-        own = nothing_said (Some (ToRender r)) refl (status.render_not_out new.status of_new) out_is;
+        rendered = λ t. subst (λ (m : W). GetsTheRender outside old.media sink r old.master m new.status) (sym master_is) (subst (GetsTheRender outside old.media sink r old.master master) (sym says) (gets t));
+        own = nothing_said (Some (Renders r)) refl (status.render_not_out new.status of_new) out_is;
         silent = λ _. out_is;
         reads = subst (λ (m : M). ReadsFailed (outside.read_faults old.media) (outside.read_faults m) new.status) (sym media_is) (subst (ReadsFailed (outside.read_faults old.media) (outside.read_faults media)) (sym says) reads);
         writes = subst (λ (m : W). WritesFailed MasterFault (sink.faults old.master) (sink.faults m) new.status) (sym master_is) (subst (WritesFailed MasterFault (sink.faults old.master) (sink.faults master)) (sym says) writes);
         replies = kept OutFault (out.faults old.out) (out.faults new.world.out) new.status (status.render_not_out new.status of_new) (ap (λ (o : O). out.faults o) out_is);
-        still_open = λ still. subst AllStayOpen (sym rings) plays.none_open;
         played = record {
           unplayed = record { journal = journal; rings = rings; acks = acks };
           refused = λ not_done not_master not_read. master_is ∙ refused (λ is. not_done (says ∙ is)) (λ is. not_master (says ∙ is)) (λ is. not_read (says ∙ is));
@@ -136,33 +120,5 @@ module _ {M I C W O : Type 0} (outside : MediaOutside M) (sink : SinkOutside W) 
         files = subst (λ (m : M). OnlyReads outside old.media m) (sym media_is) only;
         input = ap (λ (w : World M I C W O). w.input) world;
         control = ap (λ (w : World M I C W O). w.control) world;
-        unplayed = λ other. absurd other;
+        unwritten = λ other. absurd other;
       }
-
-  -- ---- an export
-
-  pub of_export : (e : Export) → Exports outside sink (plan_of_export (outside.files old.media) e) e old new → CarriesOut outside sink out old (Some (ToExport e)) new
-  of_export e d = record {
-    ends = d.ends;
-    status = d.status;
-    sounds = d.export;
-    alone = d.alone;
-    own = nothing_said (Some (ToExport e)) refl (status.export_not_out new.status d.status) d.rest.out;
-    silent = λ _. d.rest.out;
-    reads = d.reads;
-    writes = d.writes;
-    replies = kept OutFault (out.faults old.out) (out.faults new.world.out) new.status (status.export_not_out new.status d.status) (ap (λ (o : O). out.faults o) d.rest.out);
-    still_open = d.still_open;
-    played = d.played;
-    files = d.only_reads;
-    input = d.rest.input;
-    control = d.rest.control;
-    unplayed = λ other. absurd other;
-  }
-
-  -- what is asked for isn't opened
-  pub not_opened : (e : Export) (why : Unopened) (media : M) → (outside.tells → Refuses (plan_of_export (outside.files old.media) e) why) → OnlyReads outside old.media media →
-      Caused {A = Unit {0}} outside old.media media (Err why) → new.status ≡ status_of why → new.world ≡ record old { media = media } → new.journal ≡ None → new.rings.items ≡ [] → new.acks ≡ None →
-      CarriesOut outside sink out old (Some (ToExport e)) new
-  not_opened e why media refuses only cause says world journal rings acks = of_export e
-      (plays.unplayed outside sink (plan_of_export (outside.files old.media) e) e why old (record old { media = media }) media refuses refl only cause new says world journal rings acks)

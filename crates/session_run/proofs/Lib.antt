@@ -1,11 +1,10 @@
 -- The lemmas of the top call.
-pub mod SoundLemmas
 pub mod StatusLemmas
-pub mod LeftLemmas
-pub mod PlayedLemmas
 pub mod OutLemmas
 pub mod DoesLemmas
 pub mod ReplyLemmas
+pub mod RunLemmas
+pub mod TopLemmas
 pub mod MigratedLemmas
 pub mod RenderLemmas
 mod CheckVectors

@@ -3,7 +3,8 @@ use Rattle.std.proofs.Common.{◌≡◌, ◌⊎◌, inl, inr, List, ℕ}
 use Rattle.ses_io.specs.Outside.{SinkOutside}
 use Rattle.cycle_journal.specs.declared.status.Status.{Status}
 use Rattle.cycle_journal.specs.declared.status.Status.TheVariants.{Done, OutFault}
-use Rattle.session_run.specs.Replied.{Gets, GetsAFront, WritesItsOwn}
+use Rattle.session_play.specs.Unplayed.{Gets, GetsAFront}
+use Rattle.session_run.specs.Replied.{WritesItsOwn}
 
 module _ {O : Type 0} (out : SinkOutside O) (IsOwn : List ℕ → Type 0) (old new : O) (s : Status) where
   neither : (s ≡ Done) ⊎ (s ≡ OutFault) → (s ≡ Done → ⊥) → (s ≡ OutFault → ⊥) → ⊥

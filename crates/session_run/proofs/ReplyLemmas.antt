@@ -1,22 +1,20 @@
--- A command was carried out, and then the line was written that says how it failed: what a run does.
+-- A command that isn't a run was carried out, and then the line was written that says how it failed.
 use Rattle.std.proofs.Common.{◌≡◌, ◌≤◌, ◌⊎◌, inl, inr, List, ℕ, sym, ap, subst, ◌∙◌, arith}
 use Rattle.std.specs.Prelude.{Option, Some, None, Result, Ok, Err}
 use Rattle.ses_io.specs.Faults.{risen}
-use Rattle.ses_io.specs.Outside.{MediaOutside, SinkOutside, Writes}
+use Rattle.ses_io.specs.Outside.{MediaOutside, SourceOutside, SinkOutside, Writes}
 use Rattle.ses_io.specs.declared.errors.Failed.{Failed}
 use Rattle.ses_io.specs.declared.world.World.{World}
 use Rattle.cycle_journal.specs.declared.status.Status.TheVariants.{Done, MasterFault, OutFault}
-use Rattle.engine_model.specs.Journal as engine
 use Rattle.fault_lines.specs.Fault.{fault_line, fault_words}
-use Rattle.session_opening.specs.Plan.{Plan, plan_of_export, read_session, session_plan}
-use Rattle.session_opening.specs.Words.{Command, Export, ToExport, ToMigrate, ToCheck, ToRender}
-use Rattle.session_run.specs.declared.outcome.Outcome.{Outcome}
+use Rattle.session_opening.specs.Plan.{read_session, session_plan}
+use Rattle.session_play.specs.declared.outcome.Outcome.{Outcome}
+use Rattle.session_play.specs.Unplayed.{Gets, GetsAFront}
 use Rattle.session_run.specs.Carried.{CarriesOut}
-use Rattle.session_run.specs.Exported.{IsRun, IsExport, IsOfSome}
-use Rattle.session_run.specs.Headline.{Does, EndsAsAsked, IsComplete, MasterIsAsAsked, PlaysAnExport}
-use Rattle.session_run.specs.Replied.{Gets, GetsAFront, IsOwnText, Replies}
-use Rattle.session_run.specs.Status.{PlaysAsAsked, RepliesFailed}
-use Rattle.session_run.proofs.PlayedLemmas as plays
+use Rattle.session_run.specs.Headline.{Does, EndsAsAsked, FaultsHaveCauses, HasCauses, IsComplete, LeavesAlone, LeavesTheRest, PlaysAsAsked, RendersAsAsked, RepliesAsAsked}
+use Rattle.session_run.specs.Replied.{IsOwnText, Replies, WritesItsLine}
+use Rattle.session_run.specs.Status.{RepliesFailed}
+use Rattle.session_run.specs.Tasks.{Task, Runs, Migrates, Checks, Renders}
 use Rattle.session_run.proofs.StatusLemmas as status
 
 done_fails : Done ≡ OutFault → ⊥
@@ -25,41 +23,33 @@ done_fails is = cc
 above : (a b c : ℕ) → a ≤ b → b ≤ c → a ≤ c
 above a b c first second = omega (arith, first, second)
 
-module _ {M I C W O : Type 0} (media : MediaOutside M) (master : SinkOutside W) (out : SinkOutside O) (old : World M I C W O) (ended : Outcome M I C W O) (o : O) where
+-- what was asked for isn't a run
+abbrev pub IsOther : Option Task → Type 0
+IsOther (Some (Runs r)) = ⊥
+IsOther (Some (Migrates name)) = Unit {0}
+IsOther (Some (Checks name)) = Unit {0}
+IsOther (Some (Renders r)) = Unit {0}
+IsOther None = Unit {0}
+
+module _ {M I C W O : Type 0} (media : MediaOutside M) (inputs : SourceOutside I) (controls : SourceOutside C) (master : SinkOutside W) (out : SinkOutside O) (old : World M I C W O) (ended : Outcome M I C W O) (o : O) where
   abbrev new : Outcome M I C W O
   new = record ended { world = record ended.world { out = o } }
 
   -- ---- what doesn't speak of out stays
 
-  run_same : (p : Plan) (es : List engine.Entry) → IsRun master old ended p es → IsRun master old new p es
-  run_same p es r = record { lawful = r.lawful; most = r.most; all = r.all; rings = r.rings; acks = r.acks; plainly = r.plainly }
+  played : (asked : Option Task) → IsOther asked → PlaysAsAsked media inputs controls master out old asked ended → PlaysAsAsked media inputs controls master out old asked new
+  played (Some (Runs r)) other h = absurd other
+  played (Some (Migrates name)) other h = record { journal = h.journal; rings = h.rings; acks = h.acks }
+  played (Some (Checks name)) other h = record { journal = h.journal; rings = h.rings; acks = h.acks }
+  played (Some (Renders r)) other h = record { unplayed = record { journal = h.unplayed.journal; rings = h.unplayed.rings; acks = h.unplayed.acks }; refused = h.refused }
+  played None other h = record { journal = h.journal; rings = h.rings; acks = h.acks }
 
-  export_same : (p : Plan) (es : List engine.Entry) → IsExport media master old ended p es → IsExport media master old new p es
-  export_same p es e = record { run = run_same p es e.run; genuine = e.genuine; written = e.written; cut_off = e.cut_off }
-
-  some_same : (e : Export) (es : List engine.Entry) → IsOfSome master old ended e es → IsOfSome master old new e es
-  some_same e es is = record { session = is.session; valid = is.valid; run = run_same (record { session = is.session; from = e.from; cycles = e.cycles }) es is.run }
-
-  sounds : (asked : Option Command) → MasterIsAsAsked media master old asked ended → MasterIsAsAsked media master old asked new
-  sounds (Some (ToExport e)) is = plays.where_played (plan_of_export (media.files old.media) e) ended.journal (IsExport media master old ended) (IsExport media master old new) export_same is
-  sounds (Some (ToMigrate name)) is = is
-  sounds (Some (ToCheck name)) is = is
-  sounds (Some (ToRender r)) is = is
-  sounds None is = is
-
-  alone : (asked : Option Command) → PlaysAnExport master old asked ended → PlaysAnExport master old asked new
-  alone (Some (ToExport e)) is = plays.some_played ended.journal (IsOfSome master old ended e) (IsOfSome master old new e) (some_same e) is
-  alone (Some (ToMigrate name)) is = is
-  alone (Some (ToCheck name)) is = is
-  alone (Some (ToRender r)) is = is
-  alone None is = is
-
-  played : (asked : Option Command) → PlaysAsAsked old asked ended → PlaysAsAsked old asked new
-  played (Some (ToExport e)) h = record { only = h.only; done = h.done; master = h.master; acknowledged = h.acknowledged; acks = h.acks; nothing = h.nothing }
-  played (Some (ToMigrate name)) h = record { journal = h.journal; rings = h.rings; acks = h.acks }
-  played (Some (ToCheck name)) h = record { journal = h.journal; rings = h.rings; acks = h.acks }
-  played (Some (ToRender r)) h = record { unplayed = record { journal = h.unplayed.journal; rings = h.unplayed.rings; acks = h.unplayed.acks }; refused = h.refused }
-  played None h = record { journal = h.journal; rings = h.rings; acks = h.acks }
+  rendered : (asked : Option Task) → RendersAsAsked media master old asked ended → RendersAsAsked media master old asked new
+  rendered (Some (Runs r)) is = is
+  rendered (Some (Migrates name)) is = is
+  rendered (Some (Checks name)) is = is
+  rendered (Some (Renders r)) is = is
+  rendered None is = is
 
   -- ---- the line
 
@@ -67,7 +57,7 @@ module _ {M I C W O : Type 0} (media : MediaOutside M) (master : SinkOutside W) 
   got line (Ok u) w = inl (record { held = w.all; fine = w.cause.kept })
   got line (Err e) w = inr (record { held = w.front; rose = w.cause.rose })
 
-  module _ (asked : Option Command) (d : CarriesOut media master out old asked ended) (r : Result (Unit {0}) Failed) (w : Writes out (fault_line ended.status) ended.world.out o r)
+  module _ (asked : Option Task) (other : IsOther asked) (d : CarriesOut media inputs controls master out old asked ended) (r : Result (Unit {0}) Failed) (w : Writes out (fault_line ended.status) ended.world.out o r)
       (none : fault_words ended.status ≡ None → o ≡ ended.world.out) where
     at_done : ended.status ≡ Done → o ≡ ended.world.out
     at_done is = none (ap fault_words is)
@@ -95,26 +85,57 @@ module _ {M I C W O : Type 0} (media : MediaOutside M) (master : SinkOutside W) 
     abbrev reads_now : ℕ
     reads_now = media.read_faults ended.world.media
 
-    complete : media.tells → IsComplete media master out old asked new
-    complete t = by asked (d.ends t) where
-      by : (q : Option Command) → EndsAsAsked media old q ended.status → IsComplete media master out old q new
-      by (Some (ToExport e)) ends = λ ok still fine. status.completes MasterFault (plan_of_export (media.files old.media) e) ended.status reads_before reads_now (master.faults old.master) (master.faults ended.world.master)
-          ends ok still fine d.reads d.writes.cause
-      by (Some (ToMigrate name)) ends = λ ok still fine. status.completes OutFault (read_session (media.files old.media name)) ended.status reads_before reads_now (out.faults old.out) (out.faults o) ends ok still fine d.reads failed.cause
-      by (Some (ToCheck name)) ends = λ ok still fine. status.completes OutFault (session_plan (media.files old.media) name) ended.status reads_before reads_now (out.faults old.out) (out.faults o) ends ok still fine d.reads failed.cause
-      by (Some (ToRender r)) ends = λ ok still fine. status.completes MasterFault (session_plan (media.files old.media) r.session) ended.status reads_before reads_now (master.faults old.master) (master.faults ended.world.master)
-          ends ok still fine d.reads d.writes.cause
-      by None ends = tt
+    replied : RepliesAsAsked media out old asked new
+    replied = by asked other replies where
+      by : (q : Option Task) → IsOther q → Replies out (IsOwnText media old.media q) old.out o ended.status → RepliesAsAsked media out old q new
+      by (Some (Runs x)) is said = absurd is
+      by (Some (Migrates name)) is said = said
+      by (Some (Checks name)) is said = said
+      by (Some (Renders x)) is said = said
+      by None is said = said
 
-    pub answered : Does media master out old asked new
-    answered = record {
+    complete : IsComplete media inputs controls master out old asked new
+    complete = by asked other d.ends where
+      by : (q : Option Task) → IsOther q → EndsAsAsked media inputs old q ended.status → IsComplete media inputs controls master out old q new
+      by (Some (Runs x)) is ends = absurd is
+      by (Some (Migrates name)) is ends = λ t ok still fine. status.completes OutFault (read_session (media.files old.media name)) ended.status reads_before reads_now (out.faults old.out) (out.faults o) (ends t) ok still fine d.reads failed.cause
+      by (Some (Checks name)) is ends = λ t ok still fine. status.completes OutFault (session_plan (media.files old.media) name) ended.status reads_before reads_now (out.faults old.out) (out.faults o) (ends t) ok still fine d.reads failed.cause
+      by (Some (Renders x)) is ends = λ t ok still fine. status.completes MasterFault (session_plan (media.files old.media) x.session) ended.status reads_before reads_now (master.faults old.master) (master.faults ended.world.master)
+          (ends t) ok still fine d.reads d.writes.cause
+      by None is ends = tt
+
+    causes : HasCauses media inputs controls master out old asked new
+    causes = by asked other (record { reads = d.reads; writes = d.writes; replies = failed }) where
+      by : (q : Option Task) → IsOther q → FaultsHaveCauses media master out old new → HasCauses media inputs controls master out old q new
+      by (Some (Runs x)) is have = absurd is
+      by (Some (Migrates name)) is have = have
+      by (Some (Checks name)) is have = have
+      by (Some (Renders x)) is have = have
+      by None is have = have
+
+    rest : LeavesTheRest media old asked ended.status new.world
+    rest = by asked other (record { files = d.files; input = d.input; control = d.control; master = d.unwritten; out = λ some is. at_done is ∙ d.silent some }) where
+      by : (q : Option Task) → IsOther q → LeavesAlone media old q ended.status new.world → LeavesTheRest media old q ended.status new.world
+      by (Some (Runs x)) is alone = absurd is
+      by (Some (Migrates name)) is alone = alone
+      by (Some (Checks name)) is alone = alone
+      by (Some (Renders x)) is alone = alone
+      by None is alone = alone
+
+    does : Does media inputs controls master out old asked new
+    does = record {
       ends = d.ends;
       status = d.status;
-      sounds = λ t. sounds asked (d.sounds t);
-      alone = alone asked d.alone;
-      replies = replies;
+      played = played asked other d.played;
+      rendered = λ t. rendered asked (d.rendered t);
+      replies = replied;
       complete = complete;
-      causes = record { reads = d.reads; writes = d.writes; replies = failed; still_open = d.still_open };
-      played = played asked d.played;
-      rest = record { files = d.files; input = d.input; control = d.control; master = d.unplayed; out = λ some is. at_done is ∙ d.silent some };
+      causes = causes;
+      rest = rest;
     }
+
+-- what a command does that was carried out so, once its line was written
+pub answered : {M I C W O : Type 0} (media : MediaOutside M) (inputs : SourceOutside I) (controls : SourceOutside C) (master : SinkOutside W) (out : SinkOutside O) (old : World M I C W O) (ended new : Outcome M I C W O) (asked : Option Task) →
+    IsOther asked → CarriesOut media inputs controls master out old asked ended → WritesItsLine out ended new → Does media inputs controls master out old asked new
+answered media inputs controls master out old ended new asked other d line =
+    subst (Does media inputs controls master out old asked) (sym line.same) (does media inputs controls master out old ended new.world.out asked other d line.answer line.writes line.untouched)

@@ -1,6 +1,6 @@
 -- What the contract of the top call cites.
+pub mod Tasks
 pub mod Status
-pub mod Exported
 pub mod Migrated
 pub mod Checked
 pub mod Rendered

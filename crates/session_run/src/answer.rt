@@ -1,52 +1,60 @@
-//! A command is carried out, and then the line is written that says how it failed.
-ghost use Rattle.std.specs.Prelude.{IfSome};
+//! A task is carried out; of one that isn't a run the line is written then that says how it failed.
+ghost use Rattle.std.specs.Prelude.{IfSome, Some};
 ghost use Rattle.std.specs.Option.{option_map};
-ghost use Rattle.session_opening.specs.Spoken.{KeepsRanges, command_view};
-ghost use Rattle.session_run.specs.Carried.{CarriesOut};
 ghost use Rattle.session_run.specs.Headline.{Does};
+ghost use Rattle.session_run.specs.Replied.{WritesItsLine};
+ghost use Rattle.session_run.specs.Tasks.{IsTaskInRange, task_view};
 
 use crate::check::check;
-use crate::export::export;
 use crate::migrate::migrate;
-use crate::outcome::{Outcome, unplayed};
 use crate::render::render;
+use crate::task::Task;
 use cycle_journal::Status;
 use fault_lines::write_fault;
 use ses_io::{Media, Sink, Source, World};
-use session_opening::Command;
+use session_play::{Outcome, play, unplayed};
 use std::alloc::Global;
 
-// Carries out what is asked for.
-fn carry_out<M: Media, I: Source, C: Source, W: Sink, O: Sink>(
-    alloc: Global,
-    asked: Option<Command<'_>>,
-    world: World<M, I, C, W, O>,
-) -> Outcome<M, I, C, W, O>
-    requires { IfSome asked KeepsRanges }
-    ensures { CarriesOut M.outside W.outside O.outside world
-        (option_map command_view asked.entry) result }
+// Writes the line of the status to out, where it has one.
+fn with_line<M, I, C, W, O: Sink>(ended: Outcome<M, I, C, W, O>) -> Outcome<M, I, C, W, O>
+    ensures { WritesItsLine O.outside ended result }
 {
-    match asked {
-        Some(Command::Export(asked)) => export(alloc, &asked, world),
-        Some(Command::Migrate { session }) => migrate(alloc, session, world),
-        Some(Command::Check { session }) => check(alloc, session, world),
-        Some(Command::Render(asked)) => render(alloc, &asked, world),
-        None => unplayed(alloc, Status::Usage, world),
-    }
-}
-
-/// Carries out what is asked for, and writes the line of the status to out, where it has one.
-pub(crate) fn answer<M: Media, I: Source, C: Source, W: Sink, O: Sink>(
-    alloc: Global,
-    asked: Option<Command<'_>>,
-    world: World<M, I, C, W, O>,
-) -> Outcome<M, I, C, W, O>
-    requires { IfSome asked KeepsRanges }
-    ensures { Does M.outside W.outside O.outside world
-        (option_map command_view asked.entry) result }
-{
-    let mut ended = carry_out(alloc, asked, world);
+    let mut ended = ended;
     // Where this write fails too the status stays.
     let _ = write_fault(&mut ended.world.out, &ended.status);
     ended
+}
+
+// Does a task. The line of its status is written by a run itself, and behind what another command does.
+fn done<M: Media, I: Source, C: Source, W: Sink, O: Sink>(
+    alloc: Global,
+    task: Task<'_>,
+    world: World<M, I, C, W, O>,
+) -> Outcome<M, I, C, W, O>
+    requires { IsTaskInRange task }
+    ensures { Does M.outside I.outside C.outside W.outside O.outside world
+        (Some (task_view task.entry)) result }
+{
+    match task {
+        Task::Run(asked) => play(alloc, &asked, world),
+        Task::Migrate { session } => with_line(migrate(alloc, session, world)),
+        Task::Check { session } => with_line(check(alloc, session, world)),
+        Task::Render(asked) => with_line(render(alloc, &asked, world)),
+    }
+}
+
+/// Does what is asked for, and writes the line of the status to out, where it has one.
+pub(crate) fn answer<M: Media, I: Source, C: Source, W: Sink, O: Sink>(
+    alloc: Global,
+    asked: Option<Task<'_>>,
+    world: World<M, I, C, W, O>,
+) -> Outcome<M, I, C, W, O>
+    requires { IfSome asked IsTaskInRange }
+    ensures { Does M.outside I.outside C.outside W.outside O.outside world
+        (option_map task_view asked.entry) result }
+{
+    match asked {
+        Some(task) => done(alloc, task, world),
+        None => with_line(unplayed(alloc, Status::Usage, world)),
+    }
 }

@@ -3,19 +3,18 @@ ghost use Rattle.std.specs.Prelude.{◌≡◌, Some, IfOk, string_bytes};
 ghost use Rattle.std.specs.List.{count_by};
 ghost use Rattle.ses_io.specs.Outside.{OnlyReads};
 ghost use Rattle.session_opening.specs.Plan.{session_plan};
-ghost use Rattle.session_opening.specs.Words.{ToCheck};
+ghost use Rattle.session_run.specs.Tasks.{Checks};
 ghost use Rattle.session_run.specs.Status.{EndsWith, IsOfCheck, ReadsFailed, WritesFailed};
 ghost use Rattle.session_run.specs.Checked.{IsCheckText, check_text, is_bus};
 ghost use Rattle.session_run.specs.Replied.{WritesItsOwn};
 ghost use Rattle.session_run.specs.Carried.{CarriesOut};
 
-use crate::ending::status_of;
-use crate::outcome::{Outcome, unplayed};
 use crate::writing::write_text;
 use cycle_journal::Status;
-use ses_io::{Media, Sink, World};
+use ses_io::{Media, Sink, Source, World};
 use session_model::{Route, RouteKind, Session};
 use session_opening::{Opened, open_session};
+use session_play::{Outcome, status_of, unplayed};
 use std::alloc::{AllocError, Global};
 
 // How many busses there are among the routes.
@@ -68,12 +67,13 @@ fn count<M: Media, O: Sink>(alloc: Global, media: &mut M, out: &mut O, name: &st
 }
 
 /// Reads the session of the file and the heads of its sources, and writes what it has to out.
-pub(crate) fn check<M: Media, I, C, W: Sink, O: Sink>(
+pub(crate) fn check<M: Media, I: Source, C: Source, W: Sink, O: Sink>(
     alloc: Global,
     name: &str,
     world: World<M, I, C, W, O>,
 ) -> Outcome<M, I, C, W, O>
-    ensures { CarriesOut M.outside W.outside O.outside world (Some (ToCheck name.now)) result }
+    ensures { CarriesOut M.outside I.outside C.outside W.outside O.outside world
+        (Some (Checks name.now)) result }
 {
     let mut world = world;
     let status = count(alloc, &mut world.media, &mut world.out, name);

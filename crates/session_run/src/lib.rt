@@ -3,15 +3,13 @@
 
 mod answer;
 mod check;
-mod ending;
-mod export;
 mod migrate;
-mod outcome;
 mod render;
+mod task;
 mod top;
 mod writing;
 
 pub use audio_source::FileRefusal;
 pub use cycle_journal::{InputRefusal, Status};
-pub use outcome::Outcome;
+pub use session_play::Outcome;
 pub use top::run;

@@ -2,18 +2,17 @@
 ghost use Rattle.std.specs.Prelude.{Some};
 ghost use Rattle.ses_io.specs.Outside.{OnlyReads};
 ghost use Rattle.session_opening.specs.Plan.{read_session};
-ghost use Rattle.session_opening.specs.Words.{ToMigrate};
+ghost use Rattle.session_run.specs.Tasks.{Migrates};
 ghost use Rattle.session_run.specs.Status.{EndsWith, IsOfMigrate, ReadsFailed, WritesFailed};
 ghost use Rattle.session_run.specs.Migrated.{IsMigratedText};
 ghost use Rattle.session_run.specs.Replied.{WritesItsOwn};
 ghost use Rattle.session_run.specs.Carried.{CarriesOut};
 
-use crate::ending::status_of;
-use crate::outcome::{Outcome, unplayed};
 use crate::writing::write_text;
 use cycle_journal::Status;
-use ses_io::{Media, Sink, World};
+use ses_io::{Media, Sink, Source, World};
 use session_opening::{Unopened, read_session};
+use session_play::{Outcome, status_of, unplayed};
 use session_text::text_of_session;
 use std::alloc::Global;
 
@@ -41,12 +40,13 @@ fn rewrite<M: Media, O: Sink>(alloc: Global, media: &mut M, out: &mut O, name: &
 }
 
 /// Reads the session of the file and writes it to out.
-pub(crate) fn migrate<M: Media, I, C, W: Sink, O: Sink>(
+pub(crate) fn migrate<M: Media, I: Source, C: Source, W: Sink, O: Sink>(
     alloc: Global,
     name: &str,
     world: World<M, I, C, W, O>,
 ) -> Outcome<M, I, C, W, O>
-    ensures { CarriesOut M.outside W.outside O.outside world (Some (ToMigrate name.now)) result }
+    ensures { CarriesOut M.outside I.outside C.outside W.outside O.outside world
+        (Some (Migrates name.now)) result }
 {
     let mut world = world;
     let status = rewrite(alloc, &mut world.media, &mut world.out, name);

@@ -4,20 +4,20 @@ ghost use Rattle.ses_io.specs.Outside.{OnlyReads};
 ghost use Rattle.session_model.specs.Valid.{IsValid};
 ghost use Rattle.audio_source.specs.Opened.{IsListed, IsOpened};
 ghost use Rattle.session_opening.specs.Plan.{session_plan};
-ghost use Rattle.session_opening.specs.Spoken.{render_view, IsRenderInRange};
-ghost use Rattle.session_opening.specs.Words.{ToRender};
+ghost use Rattle.command_words.specs.Spoken.{render_view, IsRenderInRange};
+ghost use Rattle.session_run.specs.Tasks.{Renders};
 ghost use Rattle.session_run.specs.Status.{EndsWith, IsOfRender, ReadsFailed, WritesFailed, status_after};
 ghost use Rattle.session_run.specs.Rendered.{GetsTheRender, IsRendered, rendered};
 ghost use Rattle.session_run.specs.Carried.{CarriesOut};
 
-use crate::ending::status_of;
-use crate::outcome::{Outcome, unplayed};
 use audio_source::{SourceView, Sources};
+use command_words::Render;
 use cycle_journal::Status;
 use master_render::{RenderFault, render_master};
-use ses_io::{Media, Sink, World};
+use ses_io::{Media, Sink, Source, World};
 use session_model::Session;
-use session_opening::{Opened, Render, open_session};
+use session_opening::{Opened, open_session};
+use session_play::{Outcome, status_of, unplayed};
 use std::alloc::Global;
 
 // The status of a rendering that ended so.
@@ -94,14 +94,14 @@ fn render_into<M: Media, W: Sink>(
 }
 
 /// Renders what is asked for into the master.
-pub(crate) fn render<M: Media, I, C, W: Sink, O: Sink>(
+pub(crate) fn render<M: Media, I: Source, C: Source, W: Sink, O: Sink>(
     alloc: Global,
     asked: &Render<'_>,
     world: World<M, I, C, W, O>,
 ) -> Outcome<M, I, C, W, O>
     requires { IsRenderInRange asked.now }
-    ensures { CarriesOut M.outside W.outside O.outside world
-        (Some (ToRender (render_view asked.now))) result }
+    ensures { CarriesOut M.outside I.outside C.outside W.outside O.outside world
+        (Some (Renders (render_view asked.now))) result }
 {
     let mut world = world;
     let status = render_into(alloc, asked, &mut world.media, &mut world.master);

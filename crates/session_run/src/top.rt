@@ -1,19 +1,20 @@
 //! The top call: the words are read, and what they ask for is done with the world.
 ghost use Rattle.std.specs.Prelude.{◌≡◌, ◌↔◌, None};
-ghost use Rattle.session_run.specs.Status.{IsStatusOf, PlaysAsAsked};
-ghost use Rattle.session_run.specs.Headline.{asked_by, EndsAsAsked, MasterIsAsAsked, PlaysAnExport, RepliesAsAsked, IsComplete, HasCauses, LeavesTheRest};
+ghost use Rattle.session_run.specs.Headline.{EndsAsAsked, HasCauses, IsComplete, LeavesTheRest, PlaysAsAsked, RendersAsAsked, RepliesAsAsked};
+ghost use Rattle.session_run.specs.Status.{IsStatusOf};
+ghost use Rattle.session_run.specs.Tasks.{asked_by};
 
 use crate::answer::answer;
-use crate::outcome::Outcome;
+use crate::task::asked_by;
 use cycle_journal::Status;
 use ses_io::{Media, Sink, Source, World};
-use session_opening::command;
+use session_play::Outcome;
 use std::alloc::Global;
 use std::sync::Wait;
 use std::thread::Threads;
 
-/// Does what the words ask for. The words are those after the program's name. An export plays on one thread, so the runtime has
-/// nothing to do yet. Clauses that begin with `tells` speak of a media that tells its files; the others of every one.
+/// Does what the words ask for. The words are those after the program's name. A run, which is an export or a play, goes on one thread, so
+/// the runtime has nothing to do yet. What a run plays, writes, records and answers is said by `played`.
 pub fn run<R, M, I, C, W, O>(
     _rt: &R,
     alloc: Global,
@@ -28,19 +29,19 @@ where
     W: Sink + Send,
     O: Sink + Send,
     ensures usage { (result.status ≡ Status.Usage) ↔ (asked_by words.now ≡ None) }
-    ensures ends { M.outside.tells
-        → EndsAsAsked M.outside world (asked_by words.now) result.status }
+    ensures ends { EndsAsAsked M.outside I.outside world (asked_by words.now) result.status }
     ensures status { IsStatusOf (asked_by words.now) result.status }
-    ensures master { M.outside.tells
-        → MasterIsAsAsked M.outside W.outside world (asked_by words.now) result }
-    ensures alone { PlaysAnExport W.outside world (asked_by words.now) result }
-    ensures out { RepliesAsAsked M.outside O.outside world (asked_by words.now) result }
-    ensures complete { M.outside.tells
-        → IsComplete M.outside W.outside O.outside world (asked_by words.now) result }
-    ensures causes { HasCauses M.outside W.outside O.outside world result }
-    ensures played { PlaysAsAsked world (asked_by words.now) result }
+    ensures played { PlaysAsAsked M.outside I.outside C.outside W.outside O.outside world
+        (asked_by words.now) result }
+    ensures rendered { M.outside.tells
+        → RendersAsAsked M.outside W.outside world (asked_by words.now) result }
+    ensures replies { RepliesAsAsked M.outside O.outside world (asked_by words.now) result }
+    ensures complete { IsComplete M.outside I.outside C.outside W.outside O.outside world
+        (asked_by words.now) result }
+    ensures causes { HasCauses M.outside I.outside C.outside W.outside O.outside world
+        (asked_by words.now) result }
     ensures rest { LeavesTheRest M.outside world (asked_by words.now)
         result.status result.world }
 {
-    answer(alloc, command(words), world)
+    answer(alloc, asked_by(words), world)
 }

@@ -1,6 +1,6 @@
 //! A command's own text, written to out.
 ghost use Rattle.std.specs.Prelude.{◌≡◌, ◌⊎◌};
-ghost use Rattle.session_run.specs.Replied.{Gets, GetsAFront};
+ghost use Rattle.session_play.specs.Unplayed.{Gets, GetsAFront};
 ghost use Rattle.session_run.specs.Status.{WritesFailed};
 
 use cycle_journal::Status;

@@ -1,7 +1,7 @@
 //! Exports of regions with gains, fades and layers, and of lanes.
 use super::row::{
-    A, DATA, EIGHT_OF_400, EVEN, EXPORT, Ends, FORM, FORMAT, HEAD, HEARD, PARTS, REGION, RIFF,
-    ROLLS, Row, SOURCE_B,
+    A, DATA, EIGHT_OF_400, EVEN, EXPORTED, FORM, FORMAT, Form, HEAD, PARTS, REGION, RIFF, Row,
+    SOURCE_B, TWO_CYCLES,
 };
 use crate::bench::File;
 
@@ -26,7 +26,6 @@ const ABOVE: File = File {
 pub(crate) const LAYERED: &[Row] = &[
     // half of 1 is rounded down to 0, and half of -1 to -1
     Row {
-        words: EXPORT,
         files: &[
             File {
                 name: "s.toml",
@@ -47,23 +46,16 @@ pub(crate) const LAYERED: &[Row] = &[
                 ],
             },
         ],
-        bad_reads: &[],
-        bad_writes: &[],
-        ends: Ends::Done,
-        number: 0,
-        out: b"",
         master: &[
             RIFF,
             FORMAT,
             DATA,
             &[0, 0, 0xff, 0xff, 0, 0, 0, 0, 0, 0, 0, 0, 0, 0, 0, 0],
         ],
-        states: ROLLS,
-        notes: &[HEARD],
+        ..EXPORTED
     },
     // a linear fade in of four frames: 0 100 200 300, and then 400
     Row {
-        words: EXPORT,
         files: &[
             File {
                 name: "s.toml",
@@ -71,11 +63,6 @@ pub(crate) const LAYERED: &[Row] = &[
             },
             EVEN,
         ],
-        bad_reads: &[],
-        bad_writes: &[],
-        ends: Ends::Done,
-        number: 0,
-        out: b"",
         master: &[
             RIFF,
             FORMAT,
@@ -84,8 +71,7 @@ pub(crate) const LAYERED: &[Row] = &[
                 0, 0, 0x64, 0, 0xc8, 0, 0x2c, 1, 0x90, 1, 0x90, 1, 0x90, 1, 0x90, 1,
             ],
         ],
-        states: ROLLS,
-        notes: &[HEARD],
+        ..EXPORTED
     },
     // from two on a fade out of four, whose last frame is 0: 400 400 300 200 100 0, and then silence
     Row {
@@ -97,11 +83,10 @@ pub(crate) const LAYERED: &[Row] = &[
             },
             EVEN,
         ],
-        bad_reads: &[],
-        bad_writes: &[],
-        ends: Ends::Done,
-        number: 0,
-        out: b"",
+        report: Some(Form {
+            from: 2,
+            ..TWO_CYCLES
+        }),
         master: &[
             RIFF,
             FORMAT,
@@ -110,12 +95,10 @@ pub(crate) const LAYERED: &[Row] = &[
                 0x90, 1, 0x90, 1, 0x2c, 1, 0xc8, 0, 0x64, 0, 0, 0, 0, 0, 0, 0,
             ],
         ],
-        states: ROLLS,
-        notes: &[HEARD],
+        ..EXPORTED
     },
     // a slow fade in of 100 to 800, by 0, 1, 4 and 9 parts of 16: 0 12 75 225, and then 500 to 800
     Row {
-        words: EXPORT,
         files: &[
             File {
                 name: "s.toml",
@@ -129,11 +112,6 @@ pub(crate) const LAYERED: &[Row] = &[
             },
             A,
         ],
-        bad_reads: &[],
-        bad_writes: &[],
-        ends: Ends::Done,
-        number: 0,
-        out: b"",
         master: &[
             RIFF,
             FORMAT,
@@ -142,12 +120,10 @@ pub(crate) const LAYERED: &[Row] = &[
                 0, 0, 12, 0, 75, 0, 225, 0, 0xf4, 1, 0x58, 2, 0xbc, 2, 0x20, 3,
             ],
         ],
-        states: ROLLS,
-        notes: &[HEARD],
+        ..EXPORTED
     },
     // 400 that fades in over 800 and covers it: 800 700 600 500, and then 400
     Row {
-        words: EXPORT,
         files: &[
             File {
                 name: "s.toml",
@@ -163,11 +139,6 @@ pub(crate) const LAYERED: &[Row] = &[
             BELOW,
             ABOVE,
         ],
-        bad_reads: &[],
-        bad_writes: &[],
-        ends: Ends::Done,
-        number: 0,
-        out: b"",
         master: &[
             RIFF,
             FORMAT,
@@ -176,12 +147,10 @@ pub(crate) const LAYERED: &[Row] = &[
                 0x20, 3, 0xbc, 2, 0x58, 2, 0xf4, 1, 0x90, 1, 0x90, 1, 0x90, 1, 0x90, 1,
             ],
         ],
-        states: ROLLS,
-        notes: &[HEARD],
+        ..EXPORTED
     },
     // 400 through which 800 is heard: 1,200 eight times
     Row {
-        words: EXPORT,
         files: &[
             File {
                 name: "s.toml",
@@ -197,11 +166,6 @@ pub(crate) const LAYERED: &[Row] = &[
             BELOW,
             ABOVE,
         ],
-        bad_reads: &[],
-        bad_writes: &[],
-        ends: Ends::Done,
-        number: 0,
-        out: b"",
         master: &[
             RIFF,
             FORMAT,
@@ -210,12 +174,10 @@ pub(crate) const LAYERED: &[Row] = &[
                 0xb0, 4, 0xb0, 4, 0xb0, 4, 0xb0, 4, 0xb0, 4, 0xb0, 4, 0xb0, 4, 0xb0, 4,
             ],
         ],
-        states: ROLLS,
-        notes: &[HEARD],
+        ..EXPORTED
     },
     // a lane that falls to nothing in four frames: 400 300 200 100, and then silence
     Row {
-        words: EXPORT,
         files: &[
             File {
                 name: "s.toml",
@@ -229,18 +191,12 @@ pub(crate) const LAYERED: &[Row] = &[
             },
             EVEN,
         ],
-        bad_reads: &[],
-        bad_writes: &[],
-        ends: Ends::Done,
-        number: 0,
-        out: b"",
         master: &[
             RIFF,
             FORMAT,
             DATA,
             &[0x90, 1, 0x2c, 1, 0xc8, 0, 0x64, 0, 0, 0, 0, 0, 0, 0, 0, 0],
         ],
-        states: ROLLS,
-        notes: &[HEARD],
+        ..EXPORTED
     },
 ];

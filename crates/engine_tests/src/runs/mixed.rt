@@ -1,7 +1,7 @@
 //! Exports through faders, sends and busses, into two channels, and of soloed and muted tracks.
 use super::row::{
-    DATA, EIGHT_OF_400, EVEN, EXPORT, Ends, FORM, FORMAT, HEAD, HEARD, PARTS, REGION, RIFF, ROLLS,
-    Row, SOURCE_B,
+    DATA, EIGHT_OF_400, EVEN, EXPORTED, FORM, FORMAT, Form, HEAD, HEARD, PARTS, REGION, RIFF, Row,
+    SOURCE_B, TWO_CYCLES,
 };
 use crate::bench::File;
 
@@ -47,7 +47,6 @@ const REGION_OF_B: &[u8] = b"[[track.region]]\nid = 1\nsource = \"b\"\nlength = 
 pub(crate) const MIXED: &[Row] = &[
     // half of 400 by the fader, and the whole by a send before it: 600
     Row {
-        words: EXPORT,
         files: &[
             File {
                 name: "s.toml",
@@ -55,11 +54,6 @@ pub(crate) const MIXED: &[Row] = &[
             },
             EVEN,
         ],
-        bad_reads: &[],
-        bad_writes: &[],
-        ends: Ends::Done,
-        number: 0,
-        out: b"",
         master: &[
             RIFF,
             FORMAT,
@@ -68,12 +62,10 @@ pub(crate) const MIXED: &[Row] = &[
                 0x58, 2, 0x58, 2, 0x58, 2, 0x58, 2, 0x58, 2, 0x58, 2, 0x58, 2, 0x58, 2,
             ],
         ],
-        states: ROLLS,
-        notes: &[HEARD],
+        ..EXPORTED
     },
     // by a send after the fader the half again: 400
     Row {
-        words: EXPORT,
         files: &[
             File {
                 name: "s.toml",
@@ -81,18 +73,11 @@ pub(crate) const MIXED: &[Row] = &[
             },
             EVEN,
         ],
-        bad_reads: &[],
-        bad_writes: &[],
-        ends: Ends::Done,
-        number: 0,
-        out: b"",
         master: &[RIFF, FORMAT, DATA, EIGHT_OF_400],
-        states: ROLLS,
-        notes: &[HEARD],
+        ..EXPORTED
     },
     // one channel into two, the second at half: 400 200 in each frame
     Row {
-        words: EXPORT,
         files: &[
             File {
                 name: "s.toml",
@@ -106,11 +91,10 @@ pub(crate) const MIXED: &[Row] = &[
             },
             EVEN,
         ],
-        bad_reads: &[],
-        bad_writes: &[],
-        ends: Ends::Done,
-        number: 0,
-        out: b"",
+        report: Some(Form {
+            channels: 2,
+            ..TWO_CYCLES
+        }),
         master: &[
             STEREO_RIFF,
             STEREO,
@@ -122,12 +106,10 @@ pub(crate) const MIXED: &[Row] = &[
                 0x90, 1, 200, 0, 0x90, 1, 200, 0, 0x90, 1, 200, 0, 0x90, 1, 200, 0,
             ],
         ],
-        states: ROLLS,
-        notes: &[HEARD],
+        ..EXPORTED
     },
     // of 100 and 200 the second alone, which is soloed: 200
     Row {
-        words: EXPORT,
         files: &[
             File {
                 name: "s.toml",
@@ -145,18 +127,12 @@ pub(crate) const MIXED: &[Row] = &[
             LOW,
             HIGH,
         ],
-        bad_reads: &[],
-        bad_writes: &[],
-        ends: Ends::Done,
-        number: 0,
-        out: b"",
         master: &[RIFF, FORMAT, DATA, EIGHT_OF_200],
-        states: ROLLS,
         notes: &[HEARD, HEARD],
+        ..EXPORTED
     },
     // where the second is soloed and muted too, neither is open: silence
     Row {
-        words: EXPORT,
         files: &[
             File {
                 name: "s.toml",
@@ -174,14 +150,9 @@ pub(crate) const MIXED: &[Row] = &[
             LOW,
             HIGH,
         ],
-        bad_reads: &[],
-        bad_writes: &[],
-        ends: Ends::Done,
-        number: 0,
-        out: b"",
         master: &[RIFF, FORMAT, DATA, &[0; 16]],
-        states: ROLLS,
         notes: &[HEARD, HEARD],
+        ..EXPORTED
     },
     // two channels, of 400 and -400, through a bus along a lane that rises in four frames, and a master at half, from one on: 50 100
     // 150, then 200 up to the end of the sound
@@ -217,11 +188,11 @@ pub(crate) const MIXED: &[Row] = &[
                 ],
             },
         ],
-        bad_reads: &[],
-        bad_writes: &[],
-        ends: Ends::Done,
-        number: 0,
-        out: b"",
+        report: Some(Form {
+            from: 1,
+            channels: 2,
+            ..TWO_CYCLES
+        }),
         master: &[
             STEREO_RIFF,
             STEREO,
@@ -233,7 +204,6 @@ pub(crate) const MIXED: &[Row] = &[
                 200, 0, 0x38, 0xff, 200, 0, 0x38, 0xff, 200, 0, 0x38, 0xff, 0, 0, 0, 0,
             ],
         ],
-        states: ROLLS,
-        notes: &[HEARD],
+        ..EXPORTED
     },
 ];

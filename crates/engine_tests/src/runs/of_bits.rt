@@ -1,5 +1,5 @@
 //! Exports of sources and masters of other numbers of bits than 16.
-use super::row::{A, Ends, FIRST, FORM, FORMAT, HEAD, HEARD, PARTS, REGION, Row};
+use super::row::{A, EXPORTED, FIRST, FORM, FORMAT, Form, HEAD, PARTS, REGION, Row, TWO_CYCLES};
 use crate::bench::File;
 use cycle_journal::State;
 
@@ -37,11 +37,10 @@ pub(crate) const OF_BITS: &[Row] = &[
                 ],
             },
         ],
-        bad_reads: &[],
-        bad_writes: &[],
-        ends: Ends::Done,
-        number: 0,
-        out: b"",
+        report: Some(Form {
+            cycles: 1,
+            ..TWO_CYCLES
+        }),
         master: &[
             b"RIFF\x2c\0\0\0WAVEfmt \x10\0\0\0",
             FORMAT,
@@ -49,17 +48,18 @@ pub(crate) const OF_BITS: &[Row] = &[
             &[0, 0, 0, 1, 0, 0xff, 0, 0x7f],
         ],
         states: &[FIRST],
-        notes: &[HEARD],
+        ..EXPORTED
     },
     // three frames of 24 bits are 9 bytes and a pad byte: 54 in all
     Row {
         words: ONE_CYCLE,
         files: &[THREES, A],
-        bad_reads: &[],
-        bad_writes: &[],
-        ends: Ends::Done,
-        number: 0,
-        out: b"",
+        report: Some(Form {
+            bits: 24,
+            block: 3,
+            cycles: 1,
+            ..TWO_CYCLES
+        }),
         master: &[
             b"RIFF\x2e\0\0\0WAVEfmt \x10\0\0\0",
             FORMAT_OF_24,
@@ -67,17 +67,18 @@ pub(crate) const OF_BITS: &[Row] = &[
             &[0, 0x64, 0, 0, 0xc8, 0, 0, 0x2c, 1, 0],
         ],
         states: &[FIRST],
-        notes: &[HEARD],
+        ..EXPORTED
     },
     // of three cycles it is one pad byte too, behind 27: 100 to 800, and silence
     Row {
         words: &["export", "s.toml", "0", "3"],
         files: &[THREES, A],
-        bad_reads: &[],
-        bad_writes: &[],
-        ends: Ends::Done,
-        number: 0,
-        out: b"",
+        report: Some(Form {
+            bits: 24,
+            block: 3,
+            cycles: 3,
+            ..TWO_CYCLES
+        }),
         master: &[
             b"RIFF\x40\0\0\0WAVEfmt \x10\0\0\0",
             FORMAT_OF_24,
@@ -97,7 +98,7 @@ pub(crate) const OF_BITS: &[Row] = &[
                 seq: 2,
             },
         ],
-        notes: &[HEARD],
+        ..EXPORTED
     },
     // a source of 24 bits is rounded down in a file of 16: 255, -1 and 511 of 256 parts are 0, -1 and 1
     Row {
@@ -117,11 +118,10 @@ pub(crate) const OF_BITS: &[Row] = &[
                 ],
             },
         ],
-        bad_reads: &[],
-        bad_writes: &[],
-        ends: Ends::Done,
-        number: 0,
-        out: b"",
+        report: Some(Form {
+            cycles: 1,
+            ..TWO_CYCLES
+        }),
         master: &[
             b"RIFF\x2c\0\0\0WAVEfmt \x10\0\0\0",
             FORMAT,
@@ -129,6 +129,6 @@ pub(crate) const OF_BITS: &[Row] = &[
             &[0, 0, 0xff, 0xff, 1, 0, 0, 0],
         ],
         states: &[FIRST],
-        notes: &[HEARD],
+        ..EXPORTED
     },
 ];

@@ -1,7 +1,7 @@
 //! Exports that are played.
 use super::row::{
-    A, BASE, DATA, EXPORT, Ends, FIRST, FORM, FORMAT, HEAD, HEARD, PARTS, REGION, RIFF, ROLLS, Row,
-    SOUND, SOURCE,
+    A, BASE, DATA, EXPORTED, Ends, FIRST, FORM, FORMAT, Form, HEAD, HEARD, PARTS, REGION, RIFF,
+    Row, SOUND, SOURCE, TWO_CYCLES,
 };
 use crate::bench::File;
 use cycle_journal::{Note, Play, State, Take};
@@ -14,20 +14,12 @@ const SILENT: Note = Note {
 pub(crate) const PLAYED: &[Row] = &[
     // the base session
     Row {
-        words: EXPORT,
         files: &[BASE, A],
-        bad_reads: &[],
-        bad_writes: &[],
-        ends: Ends::Done,
-        number: 0,
-        out: b"",
         master: SOURCE,
-        states: ROLLS,
-        notes: &[HEARD],
+        ..EXPORTED
     },
     // a region inside is heard from its start: 300 to 600 from the third frame on
     Row {
-        words: EXPORT,
         files: &[
             File {
                 name: "s.toml",
@@ -40,37 +32,29 @@ pub(crate) const PLAYED: &[Row] = &[
             },
             A,
         ],
-        bad_reads: &[],
-        bad_writes: &[],
-        ends: Ends::Done,
-        number: 0,
-        out: b"",
         master: &[
             RIFF,
             FORMAT,
             DATA,
             &[0, 0, 0, 0, 0x2c, 1, 0x90, 1, 0xf4, 1, 0x58, 2, 0, 0, 0, 0],
         ],
-        states: ROLLS,
-        notes: &[HEARD],
+        ..EXPORTED
     },
     // from six on 700 and 800, and then silence
     Row {
         words: &["export", "--", "s.toml", "6", "2"],
         files: &[BASE, A],
-        bad_reads: &[],
-        bad_writes: &[],
-        ends: Ends::Done,
-        number: 0,
-        out: b"",
+        report: Some(Form {
+            from: 6,
+            ..TWO_CYCLES
+        }),
         master: &[
             RIFF,
             FORMAT,
             DATA,
             &[0xbc, 2, 0x20, 3, 0, 0, 0, 0, 0, 0, 0, 0, 0, 0, 0, 0],
         ],
-        states: ROLLS,
-        notes: &[HEARD],
+        ..EXPORTED
     },
     // a session of no track is silent: 52 bytes
     Row {
@@ -79,11 +63,10 @@ pub(crate) const PLAYED: &[Row] = &[
             name: "s.toml",
             parts: &[HEAD, FORM],
         }],
-        bad_reads: &[],
-        bad_writes: &[],
-        ends: Ends::Done,
-        number: 0,
-        out: b"",
+        report: Some(Form {
+            cycles: 1,
+            ..TWO_CYCLES
+        }),
         master: &[
             b"RIFF\x2c\0\0\0WAVEfmt \x10\0\0\0",
             FORMAT,
@@ -91,10 +74,10 @@ pub(crate) const PLAYED: &[Row] = &[
         ],
         states: &[FIRST],
         notes: &[],
+        ..EXPORTED
     },
     // two loud tracks, of 30,000 each, are clipped at 32,767
     Row {
-        words: EXPORT,
         files: &[
             File {
                 name: "s.toml",
@@ -120,11 +103,6 @@ pub(crate) const PLAYED: &[Row] = &[
                 ],
             },
         ],
-        bad_reads: &[],
-        bad_writes: &[],
-        ends: Ends::Done,
-        number: 0,
-        out: b"",
         master: &[
             RIFF,
             FORMAT,
@@ -134,12 +112,11 @@ pub(crate) const PLAYED: &[Row] = &[
                 0xff, 0x7f,
             ],
         ],
-        states: ROLLS,
         notes: &[HEARD, HEARD],
+        ..EXPORTED
     },
     // an odd chunk before the sound is passed
     Row {
-        words: EXPORT,
         files: &[
             BASE,
             File {
@@ -147,42 +124,42 @@ pub(crate) const PLAYED: &[Row] = &[
                 parts: &[RIFF, FORMAT, b"LIST\x03\0\0\0abc\0", DATA, SOUND],
             },
         ],
-        bad_reads: &[],
-        bad_writes: &[],
-        ends: Ends::Done,
-        number: 0,
-        out: b"",
         master: SOURCE,
-        states: ROLLS,
-        notes: &[HEARD],
+        ..EXPORTED
     },
     // a sound that fails to be read is never rolled
     Row {
-        words: EXPORT,
         files: &[BASE, A],
         bad_reads: &[("a.wav", 44)],
-        bad_writes: &[],
         ends: Ends::ReadFault,
         number: 4,
-        out: b"error read-fault\n",
+        report: None,
+        out: b"report 1
+format 48000 16 1 4 2
+edit 1 locate 0
+edit 2 roll
+cycle 1 2 2 seeking 1 1 -/-
+cycle 2 2 2 seeking 1 1 -/-
+end 2
+error read-fault
+",
         master: &[RIFF, FORMAT, DATA, &[0; 16]],
         states: &[
             State::Seeking { track: 0, tail: 1 },
             State::Seeking { track: 0, tail: 1 },
         ],
         notes: &[SILENT],
+        ..EXPORTED
     },
     // a third write that fails leaves the front
     Row {
-        words: EXPORT,
         files: &[BASE, A],
-        bad_reads: &[],
         bad_writes: &[3],
         ends: Ends::MasterFault,
         number: 7,
         out: b"error master-fault\n",
         master: &[RIFF, FORMAT, DATA, &[0x64, 0, 0xc8, 0, 0x2c, 1, 0x90, 1]],
         states: &[FIRST],
-        notes: &[HEARD],
+        ..EXPORTED
     },
 ];

@@ -43,6 +43,7 @@ pub(crate) const RENDERED: &[Row] = &[
         bad_writes: &[],
         ends: Ends::Done,
         number: 0,
+        report: None,
         out: b"",
         master: &[
             RIFF_OF_THREE,
@@ -67,6 +68,7 @@ pub(crate) const RENDERED: &[Row] = &[
         bad_writes: &[],
         ends: Ends::Done,
         number: 0,
+        report: None,
         out: b"",
         master: &[
             b"RIFF\x2e\0\0\0WAVEfmt \x10\0\0\0",
@@ -85,6 +87,7 @@ pub(crate) const RENDERED: &[Row] = &[
         bad_writes: &[],
         ends: Ends::Done,
         number: 0,
+        report: None,
         out: b"",
         master: &[
             RIFF_OF_THREE,
@@ -103,6 +106,7 @@ pub(crate) const RENDERED: &[Row] = &[
         bad_writes: &[],
         ends: Ends::Done,
         number: 0,
+        report: None,
         out: b"",
         master: &[
             b"RIFF\x2c\0\0\0WAVEfmt \x10\0\0\0",
@@ -121,6 +125,7 @@ pub(crate) const RENDERED: &[Row] = &[
         bad_writes: &[1],
         ends: Ends::MasterFault,
         number: 7,
+        report: None,
         // that of out too
         out: b"",
         master: &[],
@@ -135,6 +140,7 @@ pub(crate) const RENDERED: &[Row] = &[
         bad_writes: &[2],
         ends: Ends::MasterFault,
         number: 7,
+        report: None,
         out: b"error master-fault\n",
         master: &[RIFF_OF_THREE, FORMAT, DATA_OF_THREE],
         states: &[],
@@ -148,6 +154,7 @@ pub(crate) const RENDERED: &[Row] = &[
         bad_writes: &[],
         ends: Ends::ReadFault,
         number: 4,
+        report: None,
         out: b"error read-fault\n",
         master: &[RIFF, FORMAT, DATA],
         states: &[],
@@ -161,6 +168,7 @@ pub(crate) const RENDERED: &[Row] = &[
         bad_writes: &[],
         ends: Ends::Source(FileRefusal::Absent),
         number: 3,
+        report: None,
         out: b"error source a absent\n",
         master: &[],
         states: &[],
@@ -174,6 +182,7 @@ pub(crate) const RENDERED: &[Row] = &[
         bad_writes: &[],
         ends: Ends::Usage,
         number: 1,
+        report: None,
         out: b"error usage\n",
         master: &[],
         states: &[],

@@ -3,6 +3,7 @@ use crate::bench::File;
 use cycle_journal::{Note, Play, State, Take};
 use session_run::FileRefusal;
 
+#[derive(Clone, Copy)]
 pub(crate) enum Ends {
     Done,
     Usage,
@@ -19,8 +20,20 @@ pub(crate) enum Ends {
     OutFault,
 }
 
+/// The numbers of the report of an export at 48,000 frames a second.
+#[derive(Clone, Copy)]
+pub(crate) struct Form {
+    pub(crate) from: u64,
+    pub(crate) bits: u16,
+    pub(crate) channels: u16,
+    pub(crate) block: u32,
+    /// How many were asked for.
+    pub(crate) cycles: u32,
+}
+
 /// What a run is given, and what it leaves: its status with its number, its out and its master, and the states of its cycles,
 /// each with these notes.
+#[derive(Clone, Copy)]
 pub(crate) struct Row {
     pub(crate) words: &'static [&'static str],
     pub(crate) files: &'static [File],
@@ -28,6 +41,9 @@ pub(crate) struct Row {
     pub(crate) bad_writes: &'static [u64],
     pub(crate) ends: Ends,
     pub(crate) number: u8,
+    /// The report that out gets of these cycles, each of which rolled and heard each track.
+    pub(crate) report: Option<Form>,
+    /// What out gets besides, behind it.
     pub(crate) out: &'static [u8],
     pub(crate) master: &'static [&'static [u8]],
     pub(crate) states: &'static [State],
@@ -54,6 +70,30 @@ pub(crate) const ROLLS: &[State] = &[
 ];
 
 pub(crate) const EXPORT: &[&str] = &["export", "s.toml", "0", "2"];
+
+/// Of that export of the base session.
+pub(crate) const TWO_CYCLES: Form = Form {
+    from: 0,
+    bits: 16,
+    channels: 1,
+    block: 4,
+    cycles: 2,
+};
+
+/// It is played to its end, and its one track is heard.
+pub(crate) const EXPORTED: Row = Row {
+    words: EXPORT,
+    files: &[],
+    bad_reads: &[],
+    bad_writes: &[],
+    ends: Ends::Done,
+    number: 0,
+    report: Some(TWO_CYCLES),
+    out: b"",
+    master: &[],
+    states: ROLLS,
+    notes: &[HEARD],
+};
 
 pub(crate) const HEAD: &[u8] = b"[session]\nversion = 1\nrate = 48000\nchannels = 1\ndepth = 2\n";
 

@@ -1,5 +1,6 @@
 //! Eight stereo files of 480,000 frames are mixed by an export: 469 blocks of 1,024 frames.
-use super::row::HEARD;
+use super::reported::report_of;
+use super::row::{Form, HEARD};
 use super::{Ended, Memory, are_joined, entry_is};
 use crate::bench::row_holds;
 use cycle_journal::{Entry, State};
@@ -91,13 +92,22 @@ fn is_mixed(alloc: Global, bytes: &[u8]) -> Result<bool, NoMemory> {
     Ok(bytes.len() == 1_921_068 && are_joined(bytes, &parts))
 }
 
+const FORM: Form = Form {
+    from: 0,
+    bits: 16,
+    channels: 2,
+    block: 1024,
+    cycles: 469,
+};
+
 fn leaves(alloc: Global, ended: &Ended) -> Result<bool, NoMemory> {
+    let report = report_of(alloc, &FORM, 469, 8)?;
     let rolled = match &ended.journal {
         Some(journal) => all_rolled(journal.entries()),
         None => false,
     };
-    let quiet = ended.status == Status::Done && ended.world.out.bytes().is_empty();
-    Ok(quiet && rolled && is_mixed(alloc, ended.world.master.bytes())?)
+    let told = ended.status == Status::Done && ended.world.out.bytes() == report.as_bytes();
+    Ok(told && rolled && is_mixed(alloc, ended.world.master.bytes())?)
 }
 
 fn is_right<R>(rt: &R, alloc: Global) -> Result<bool, NoMemory>

@@ -5,7 +5,7 @@ use ses_units::Bits;
 use wav_codec::{WavForm, decode, encode, header};
 
 // Eight mono frames of 16 bits, 100 to 800: 44 bytes of head and 16 of sound.
-pub(super) const BASE: [u8; 60] = *b"RIFF\x34\0\0\0WAVE\
+pub(crate) const BASE: [u8; 60] = *b"RIFF\x34\0\0\0WAVE\
     fmt \x10\0\0\0\x01\0\x01\0\x80\xbb\0\0\0\x77\x01\0\x02\0\x10\0\
     data\x10\0\0\0\x64\0\xc8\0\x2c\x01\x90\x01\xf4\x01\x58\x02\xbc\x02\x20\x03";
 

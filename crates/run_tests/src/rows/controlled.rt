@@ -1,5 +1,5 @@
 //! Runs without letters whose control is refused, waits or ends early.
-use crate::row::{EIGHT, Row, SERIAL};
+use run_rows::{EIGHT, Row, SERIAL};
 
 // The base session with busses b1, into the master, and b2, into b1.
 const BUSSES: &str = r#"[session]

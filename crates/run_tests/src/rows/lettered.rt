@@ -1,18 +1,18 @@
 //! Runs by letters, which then go on serially.
-use crate::row::{LONG, Row, SERIAL};
+use run_rows::{LONG, Row, SERIAL};
 
-pub(crate) const LETTERED: &[Row] = &[
-    Row {
-        name: "short after first",
-        session: LONG,
-        source: &[
-            100, 200, 300, 400, 500, 600, 700, 800, 900, 1000, 1100, 1200,
-        ],
-        cycles: 3,
-        letters: "cbbpp",
-        control: "roll\n",
-        replies: "ok 1\n",
-        report: "report 1
+/// The second block isn't there yet where its cycle is played.
+pub(crate) const SHORT_AFTER_FIRST: Row = Row {
+    name: "short after first",
+    session: LONG,
+    source: &[
+        100, 200, 300, 400, 500, 600, 700, 800, 900, 1000, 1100, 1200,
+    ],
+    cycles: 3,
+    letters: "cbbpp",
+    control: "roll\n",
+    replies: "ok 1\n",
+    report: "report 1
 format 48000 16 1 4 3
 edit 1 roll
 cycle 1 1 1 rolling 0 0 h0/-
@@ -20,9 +20,12 @@ cycle 2 1 1 rolling 0 1 s2/-
 cycle 3 1 1 rolling 0 2 h0/-
 end 3
 ",
-        master: &[100, 200, 300, 400, 0, 0, 0, 0, 900, 1000, 1100, 1200],
-        ..SERIAL
-    },
+    master: &[100, 200, 300, 400, 0, 0, 0, 0, 900, 1000, 1100, 1200],
+    ..SERIAL
+};
+
+pub(crate) const LETTERED: &[Row] = &[
+    SHORT_AFTER_FIRST,
     Row {
         name: "seek one cycle",
         letters: "cp",

@@ -1,28 +1,19 @@
 //! Runs whose track records.
-use crate::row::{EIGHT, Row, SERIAL};
-
-const ONE_TO_EIGHT: &[u16] = &[1, 2, 3, 4, 5, 6, 7, 8];
+use run_rows::{ONE_TAKE, Row};
 
 const ONE_TO_TWELVE: &[u16] = &[1, 2, 3, 4, 5, 6, 7, 8, 9, 10, 11, 12];
 
-pub(crate) const ONE_TAKE: Row = Row {
-    name: "record one take",
-    input: ONE_TO_EIGHT,
-    control: "arm t on\nrecord on\nroll\n",
-    replies: "ok 1\nok 2\nok 3\n",
-    report: "report 1
-format 48000 16 1 4 2
-edit 1 arm t on
-edit 2 record on
-edit 3 roll
-cycle 1 3 3 rolling 0 0 h0/t1.0
-cycle 2 3 3 rolling 0 1 h0/t1.1
-end 2
-",
-    master: EIGHT,
-    takes: &[Some(ONE_TO_EIGHT), None],
-    ..SERIAL
+// With no frame of input a take is silent.
+const NO_INPUT: Row = Row {
+    name: "no input",
+    input: &[],
+    takes: &[Some(&[0; 8]), None],
+    ..ONE_TAKE
 };
+
+// The head of a file of one channel, 16 bits and 48,000 frames a second, with no frame behind it.
+const NO_FRAMES: &[u8] =
+    b"RIFF\x24\0\0\0WAVEfmt \x10\0\0\0\x01\0\x01\0\x80\xbb\0\0\0\x77\x01\0\x02\0\x10\0data\0\0\0\0";
 
 pub(crate) const RECORDED: &[Row] = &[
     ONE_TAKE,
@@ -33,11 +24,11 @@ pub(crate) const RECORDED: &[Row] = &[
         takes: &[Some(&[1, 2, 3, 4, 5, 6, 0, 0]), None],
         ..ONE_TAKE
     },
+    NO_INPUT,
     Row {
-        name: "no input",
-        input: &[],
-        takes: &[Some(&[0; 8]), None],
-        ..ONE_TAKE
+        name: "no frames",
+        input_bytes: Some(NO_FRAMES),
+        ..NO_INPUT
     },
     Row {
         name: "lost block",

@@ -1,38 +1,5 @@
 //! Runs without letters: an export, and runs whose transport goes by control lines.
-use crate::row::{EIGHT, Row, SERIAL};
-
-/// The whole session, from its start.
-pub(crate) const EXPORT: Row = Row {
-    name: "base export",
-    from: Some(0),
-    report: "report 1
-format 48000 16 1 4 2
-edit 1 locate 0
-edit 2 roll
-cycle 1 2 2 rolling 1 0 h0/-
-cycle 2 2 2 rolling 1 1 h0/-
-end 2
-",
-    master: EIGHT,
-    ..SERIAL
-};
-
-pub(crate) const WAIT_THEN_LOCATE: Row = Row {
-    name: "wait then locate",
-    control: "roll\nwait 1\nlocate 4\nwait 1\nquit\n",
-    replies: "ok 1\ndone\nok 2\ndone\nok 3\n",
-    report: "report 1
-format 48000 16 1 4 2
-edit 1 roll
-edit 2 locate 4
-edit 3 quit
-cycle 1 1 1 rolling 0 0 h0/-
-cycle 2 2 2 rolling 1 0 h0/-
-end 2
-",
-    master: EIGHT,
-    ..SERIAL
-};
+use run_rows::{EIGHT, EXPORT, Row, SERIAL, WAIT_THEN_LOCATE};
 
 pub(crate) const SERIALLY: &[Row] = &[
     EXPORT,

@@ -2,7 +2,7 @@ use Rattle.std.proofs.Common.{sym, subst}
 use Rattle.ses_io.specs.Files.{Files}
 use Rattle.audio_source.specs.Opened.{IsOpened}
 use Rattle.session_opening.specs.Plan.{Open}
-use Rattle.session_opening.specs.Spoken.{render_view}
+use Rattle.command_words.specs.Spoken.{render_view}
 use Rattle.session_model.specs.declared.session.Session.{Session}
 use Rattle.session_run.specs.Rendered.{IsRendered, WhereOpened, rendered}
 use Rattle.session_run.proofs.RenderLemmas.{of_render}

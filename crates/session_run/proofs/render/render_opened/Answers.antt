@@ -7,7 +7,7 @@ use Rattle.cycle_journal.specs.declared.status.Status.{Status}
 use Rattle.master_render.specs.Offline.{offline_file}
 use Rattle.master_render.specs.Written.{IsWritten}
 use Rattle.session_run.specs.Rendered.{IsRendered, rendered}
-use Rattle.session_opening.specs.Spoken.{render_view}
+use Rattle.command_words.specs.Spoken.{render_view}
 use Rattle.session_run.proofs.RenderLemmas.{channels_are, told_sounds, written_after}
 use Rattle.session_run.proofs.render.render_opened.Goals as goal
 

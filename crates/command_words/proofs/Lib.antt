@@ -1,0 +1,4 @@
+-- Lemmas of the words.
+pub mod PartsLaws
+mod WordsVectors
+mod PlayVectors

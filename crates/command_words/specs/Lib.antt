@@ -1,0 +1,5 @@
+-- What the contracts cite.
+pub mod Verbs
+pub mod Options
+pub mod Words
+pub mod Spoken

@@ -1,0 +1,10 @@
+use Rattle.std.proofs.Common.{rules, tests}
+use Rattle.std.proofs.lemmas.Iterator.{YieldsList-from_slice}
+use Rattle.std.proofs.lemmas.Iterator.Search.{position_from_yields_List}
+use Rattle.std.specs.Prelude.{◌==◌}
+use Rattle.control_lines.proofs.FeedLemmas.{cut_at}
+use Rattle.control_lines.proofs.lines.feed_in.Goals as goal
+
+pub returns : goal.returns
+returns c = cut_at c.args.bytes.now _ (position_from_yields_List (λ b. b == 10) _ _ _ c.position.ensures.ran
+    (YieldsList-from_slice c.args.bytes.now cc) (λ x b q k. search (rules, tests)))

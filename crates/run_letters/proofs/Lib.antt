@@ -1,0 +1,2 @@
+-- Why a seed makes its letters.
+pub mod SeedLemmas

@@ -1,0 +1,2 @@
+-- Letters, as they are written and as a seed makes them.
+pub mod Letters

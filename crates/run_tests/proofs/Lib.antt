@@ -1,2 +1,0 @@
--- What the opening of a run stands on.
-mod OpeningLemmas

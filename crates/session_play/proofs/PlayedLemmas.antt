@@ -1,0 +1,255 @@
+-- What a run leaves that was played, from what the engine says of it.
+use Rattle.std.proofs.Common.{◌≡◌, ℕ, suc, ◌-◌, ◌*◌, ◌<◌, ◌≤◌, ◌⊎◌, inl, inr, refl, sym, ap, subst, ◌∙◌, arith, List, [], ◌++◌, length, drop}
+use Rattle.std.specs.Prelude.{min, Bool, true, false, ◌||◌, Option, Some, None, is_none, is_ok}
+use Rattle.std.proofs.lemmas.Bool.{true≢false}
+use Rattle.std.specs.Option.{option_map}
+use Rattle.std.proofs.lemmas.List.{append_assoc}
+use Rattle.sound_model.specs.Regions.{Sounds}
+use Rattle.sound_model.specs.Wav.{align, head}
+use Rattle.ses_io.specs.Faults.{risen}
+use Rattle.ses_io.specs.Files.{Files}
+use Rattle.ses_io.specs.Outside.{MediaOutside, SourceOutside, SinkOutside, OnlyReads}
+use Rattle.ses_io.specs.Streams.{AppendsSome}
+use Rattle.ses_io.specs.declared.world.World.{World}
+use Rattle.session_model.specs.declared.session.Session.{Session}
+use Rattle.audio_source.specs.Told.{source_sound}
+use Rattle.engine_model.specs.Played.{master_file, samples_of}
+use Rattle.engine_model.specs.Replies.{Reply}
+use Rattle.cycle_journal.specs.declared.head.ReportHead.{ReportHead}
+use Rattle.cycle_journal.specs.declared.status.Status.{Status}
+use Rattle.cycle_journal.specs.Report.{report}
+use Rattle.cycle_journal.specs.RunReport.{reported}
+use Rattle.capture_flush.specs.Finished.{AreTakes, AreTakesInPart}
+use Rattle.fault_lines.specs.Fault.{fault_line}
+use Rattle.input_blocks.specs.Laws.{SoundOfTheRest}
+use Rattle.input_blocks.specs.Rest.{StreamForm, stream_told}
+use Rattle.input_blocks.specs.State.{InputState, IsReadTo}
+use Rattle.run_world.specs.declared.finished.Finished.{Finished}
+use Rattle.run_world.specs.declared.opened.Opened.{Opened}
+use Rattle.run_world.specs.declared.opened.Script.{Script}
+use Rattle.engine_core.specs.Beginning.{started_of}
+use Rattle.engine_core.specs.Failed.{IsCounted}
+use Rattle.engine_core.specs.Finished.{FaultsAreCounted, LeavesRings, SendsGenuine, ended_of, journal_of}
+use Rattle.engine_core.specs.Lines.{GoesByItsLines}
+use Rattle.engine_core.specs.Mastered as engine
+use Rattle.engine_core.specs.Mastered.{GetsAFront, GetsTheMaster, InputFell, IsCutOff, MakesItsCycles}
+use Rattle.engine_core.specs.Passed.{AllGenuine}
+use Rattle.engine_core.specs.Takes.{LeavesTakes}
+use Rattle.engine_core.specs.UnderWay.{IsInputOf}
+use Rattle.engine_core.specs.declared.events.Event.{Event}
+use Rattle.session_play.specs.declared.outcome.Outcome.{Outcome}
+use Rattle.session_play.specs.Counted.{AreCounted}
+use Rattle.session_play.specs.Loading.{IsHeard, IsLoadedFor}
+use Rattle.session_play.specs.Played.{HandsOn, IsPlayed}
+use Rattle.session_play.specs.Ready.{loaded_of}
+use Rattle.session_play.specs.Recorded.{GetsItsMaster, LeavesItsRings, LeavesItsTakes, ReadsItsInput}
+use Rattle.session_play.specs.Reported.{IsStill, Reports, TellsOut, head_of, reported_with, said, told}
+use Rattle.session_play.specs.Request.{Request}
+use Rattle.session_play.specs.Sounds.{bytes_of_block, input_left, sounds_in}
+use Rattle.session_play.proofs.ControlLemmas.{HasReplies, asked, by_lines, has_replies}
+use Rattle.session_play.proofs.InputLemmas.{block_is, left_is, sound_is}
+use Rattle.session_play.proofs.ReportLemmas.{both_whole, front_behind, front_of_more}
+use Rattle.session_play.proofs.SoundLemmas.{sounds_are}
+
+-- ---- out
+
+record_script : (x : Option Script) → is_none (option_map (λ q. q.from) x) ≡ is_none x
+record_script None = refl
+record_script (Some q) = refl
+
+both : (a b : Bool) → (a || b) ≡ true → (a ≡ true) ⊎ (b ≡ true)
+both true b e = inl refl
+both false b e = inr e
+
+neither : (a b : Bool) → (a || b) ≡ false → a ≡ false
+neither true b e = e
+neither false b e = refl
+
+-- What the engine says of a run.
+pub record Leaves {M I C W O : Type 0} (media : MediaOutside M) (inputs : SourceOutside I) (controls : SourceOutside C) (masters : SinkOutside W) (outs : SinkOutside O) (o : Opened M I C W O) (events : List Event)
+    (f : Finished M I C W O) : Type 0 where
+  pub lines : GoesByItsLines controls outs o events f
+  pub rings : LeavesRings o f
+  pub genuine : media.tells → SendsGenuine media o f
+  pub master : media.tells → masters.tells → GetsTheMaster media masters o f
+  pub front : media.tells → masters.tells → GetsAFront media masters o f
+  pub cycles : MakesItsCycles o f
+  pub input : engine.ReadsItsInput inputs (started_of media inputs masters o) f
+  pub takes : LeavesTakes media inputs (started_of media inputs masters o) (ended_of f)
+  pub counts : FaultsAreCounted media inputs controls masters outs o f
+
+module _ {M I C W O : Type 0} (media : MediaOutside M) (inputs : SourceOutside I) (controls : SourceOutside C) (masters : SinkOutside W) (outs : SinkOutside O) (o : Opened M I C W O) (events : List Event)
+    (f : Finished M I C W O) (leaves : Leaves media inputs controls masters outs o events f) (m : M) (i : I) (name : List ℕ) where
+  abbrev s : Session
+  s = o.edition.session
+
+  -- the world before session and input were read
+  abbrev pub before : World M I C W O
+  before = record o.world { media = m; input = i }
+
+  abbrev pub request : Request
+  request = asked controls outs o events f leaves.lines name
+
+  abbrev replies : List Reply
+  replies = leaves.lines.replies
+
+  -- ---- out
+
+  module _ (head : ReportHead) (head_is : head ≡ head_of s o.cycles) (status : Status) (new : O) (reports : Reports outs head f status new) where
+    abbrev heard_so_far : List ℕ
+    heard_so_far = said request.script replies
+
+    abbrev behind : List ℕ
+    behind = reported_with head f status
+
+    has : HasReplies controls outs o events f leaves.lines heard_so_far
+    has = has_replies controls outs o events f leaves.lines
+
+    told_is : told request s f replies status ≡ heard_so_far ++ behind
+    told_is = append_assoc heard_so_far (report (reported (head_of s o.cycles) f.edits.items f.journal.items)) (fault_line status)
+        ∙ ap (λ h. heard_so_far ++ reported_with h f status) (sym head_is)
+
+    whole : (b : Bool) → f.faults.out ≡ b → outs.tells → IsStill (outs.faults o.world.out) (outs.faults new) → outs.held new ≡ outs.held o.world.out ++ told request s f replies status
+    whole true is t still = absurd (omega (arith, leaves.counts.outs.raised is, reports.later, still.same, still.short))
+    whole false is t still = both_whole (outs.held o.world.out) (outs.held f.world.out) (outs.held new) heard_so_far behind (has.all t is)
+        (reports.whole is t (record { same = omega (arith, still.same, leaves.counts.outs.kept is); short = omega (arith, still.short, leaves.counts.outs.kept is) }))
+        ∙ ap (λ xs. outs.held o.world.out ++ xs) (sym told_is)
+
+    front : (b : Bool) → f.faults.out ≡ b → outs.tells → AppendsSome (outs.held o.world.out) (outs.held new) (told request s f replies status)
+    front true is t = subst (λ xs. AppendsSome (outs.held o.world.out) (outs.held new) xs) (sym told_is)
+        (subst (λ (x : O). AppendsSome (outs.held o.world.out) (outs.held x) (heard_so_far ++ behind)) (sym (reports.silent is))
+        (front_of_more (outs.held o.world.out) (outs.held f.world.out) heard_so_far behind (has.front t)))
+    front false is t = subst (λ xs. AppendsSome (outs.held o.world.out) (outs.held new) xs) (sym told_is)
+        (front_behind (outs.held o.world.out) (outs.held f.world.out) (outs.held new) heard_so_far behind (has.all t is) (reports.front is t))
+
+    sure : (b : Bool) → f.faults.out ≡ b → outs.tells → (f.faults.out || reports.unreported) ≡ false → fault_line status ≡ [] → outs.held new ≡ outs.held o.world.out ++ told request s f replies status
+    sure true is t good none = absurd (true≢false (sym is ∙ neither f.faults.out reports.unreported good))
+    sure false is t good none = both_whole (outs.held o.world.out) (outs.held f.world.out) (outs.held new) heard_so_far behind (has.all t is) (reports.sure good none t) ∙ ap (λ xs. outs.held o.world.out ++ xs) (sym told_is)
+
+    raised : (b : Bool) → f.faults.out ≡ b → (f.faults.out || reports.unreported) ≡ true → risen (outs.faults o.world.out) ≤ outs.faults new
+    raised true is some = omega (arith, leaves.counts.outs.raised is, reports.later)
+    raised false is some = subst (λ n. risen n ≤ outs.faults new) (leaves.counts.outs.kept is) (reports.raised (ap (λ b. b || reports.unreported) (sym is) ∙ some))
+
+    tells_out : TellsOut outs o.world.out new request s f replies status
+    tells_out = record {
+      unreported = reports.unreported;
+      status_is = reports.status_is;
+      whole = whole f.faults.out refl;
+      sure = sure f.faults.out refl;
+      front = front f.faults.out refl;
+      silent = λ is t. subst (λ (x : O). AppendsSome (outs.held o.world.out) (outs.held x) heard_so_far) (sym (reports.silent is)) (has.front t);
+      later = omega (arith, leaves.counts.outs.later, reports.later);
+      raised = raised f.faults.out refl;
+      kept = λ none silent. reports.kept none silent ∙ leaves.counts.outs.kept (neither f.faults.out reports.unreported none);
+    }
+
+  -- ---- what was opened
+
+  module _ (loaded : IsLoadedFor media m request (loaded_of o)) (heard : IsHeard inputs s i o.world.input o.form) (files : OnlyReads media m o.world.media)
+      (reads_same : media.read_faults o.world.media ≡ media.read_faults m) (inputs_same : inputs.faults o.world.input ≡ inputs.faults i) (law : SoundOfTheRest) where
+    sounds : media.tells → source_sound (media.files o.world.media) o.sources.opened ≡ sounds_in (media.files m) s
+    sounds t = ap (λ fs. source_sound fs o.sources.opened) files.files ∙ sounds_are (media.files m) s o.sources.opened (loaded.heads t)
+
+    gets_master : GetsItsMaster media masters before request s f
+    gets_master = record {
+      written = λ t u fine. leaves.master t u fine ∙ ap (λ (h : Sounds). masters.held o.world.master ++ master_file s f.edits.items (samples_of h s f.edits.items) o.cycles (journal_of f)) (sounds t);
+      cut_off = λ t u failed. subst (λ (h : Sounds). IsCutOff f.faults.input (masters.held o.world.master) (masters.held f.world.master) s f.edits.items (samples_of h s f.edits.items) o.cycles (journal_of f)) (sounds t)
+          (leaves.front t u failed);
+      most = leaves.cycles.most;
+      all = λ none no_input no_master. leaves.cycles.all none (ap (λ b. b || f.faults.master) no_input ∙ no_master);
+    }
+
+    -- ---- the input
+
+    left_of : (n : ℕ) (x : InputState I) → IsInputOf (started_of media inputs masters o) x → IsReadTo inputs (record { start = inputs.left o.world.input; blocks = n }) x → inputs.tells →
+        inputs.left x.input ≡ input_left s n (inputs.left i)
+    left_of n x of read t = let start = inputs.left o.world.input in
+        read.left t ∙ ap (λ k. drop (k * align x.stream.form) start) read.done
+        ∙ ap (λ (st : StreamForm). drop (min (n * x.block) st.frames * align st.form) start) of.stream
+        ∙ ap (λ b. drop (min (n * b) (stream_told o.form).frames * align (stream_told o.form).form) start) of.block
+        ∙ left_is s (inputs.left i) start o.form n (heard.told t) (heard.rest t)
+
+    input_is : inputs.left leaves.input.now.input ≡ inputs.left f.world.input
+    input_is = ap (λ (x : I). inputs.left x) leaves.input.is
+
+    fell_by : InputFell inputs (started_of media inputs masters o) f leaves.input.now → inputs.tells → (n : ℕ) × (n < bytes_of_block (head false (inputs.left i)) s (length (journal_of f)))
+        × (inputs.left f.world.input ≡ drop n (input_left s (length (journal_of f)) (inputs.left i)))
+    fell_by e t = let lost = e.lost.lost t in (
+      lost.0,
+      block_is s (inputs.left i) o.form (length (journal_of f)) e.before.done lost.0 (heard.told t) (done_is e.of e.read) (few lost.0 lost.1),
+      sym input_is ∙ lost.2 ∙ ap (drop lost.0) (left_of (length (journal_of f)) e.before e.of e.read t),
+    ) where
+      done_is : IsInputOf (started_of media inputs masters o) e.before → IsReadTo inputs (record { start = inputs.left o.world.input; blocks = length (journal_of f) }) e.before →
+          e.before.done ≡ min (length (journal_of f) * s.block) (stream_told o.form).frames
+      done_is of read = read.done ∙ ap (λ (st : StreamForm). min (length (journal_of f) * e.before.block) st.frames) of.stream
+          ∙ ap (λ b. min (length (journal_of f) * b) (stream_told o.form).frames) of.block
+
+      few : (n : ℕ) → n < min (e.before.stream.frames - e.before.done) e.before.block * align e.before.stream.form → n < min ((stream_told o.form).frames - e.before.done) s.block * align (stream_told o.form).form
+      few n less = subst (λ b. n < min ((stream_told o.form).frames - e.before.done) b * align (stream_told o.form).form) e.of.block
+          (subst (λ (st : StreamForm). n < min (st.frames - e.before.done) e.before.block * align st.form) e.of.stream less)
+
+    cut_by : IsReadTo inputs (record { start = inputs.left o.world.input; blocks = length (journal_of f) }) leaves.input.now ⊎ IsReadTo inputs (record { start = inputs.left o.world.input; blocks = suc (length (journal_of f)) }) leaves.input.now →
+        inputs.tells → (inputs.left f.world.input ≡ input_left s (length (journal_of f)) (inputs.left i)) ⊎ (inputs.left f.world.input ≡ input_left s (suc (length (journal_of f))) (inputs.left i))
+    cut_by (inl read) t = inl (sym input_is ∙ left_of (length (journal_of f)) leaves.input.now leaves.input.of read t)
+    cut_by (inr read) t = inr (sym input_is ∙ left_of (suc (length (journal_of f))) leaves.input.now leaves.input.of read t)
+
+    reads_input : ReadsItsInput inputs i s f
+    reads_input = record {
+      read = λ t no_input no_master. sym input_is ∙ left_of (length (journal_of f)) leaves.input.now leaves.input.of (leaves.input.read (ap (λ b. b || f.faults.master) no_input ∙ no_master)) t;
+      fell = λ t failed. fell_by (leaves.input.fell failed) t;
+      cut = λ t no_input failed. cut_by (leaves.input.cut failed no_input) t;
+    }
+
+    -- ---- takes and rings
+
+    leaves_takes : LeavesItsTakes media inputs before request s f
+    leaves_takes = let journal = journal_of f in let input = leaves.takes.input in let now = media.files f.world.media in record {
+      input = input;
+      told_so = λ t. leaves.takes.told_so t ∙ sound_is law s (inputs.left i) (inputs.left o.world.input) o.form (heard.told t) (heard.rest t);
+      captured = leaves.takes.captured;
+      whole = λ rec t fine. subst (λ (fs : Files). AreTakes (record { session = s; input = input; held = fs }) journal now) files.files (leaves.takes.whole (sym (record_script o.script) ∙ rec) t fine);
+      in_part = λ rec t failed. subst (λ (fs : Files). AreTakesInPart (record { session = s; input = input; held = fs }) journal now) files.files (leaves.takes.in_part (sym (record_script o.script) ∙ rec) t failed);
+      same = λ rec. leaves.takes.same (sym (record_script o.script) ∙ rec) ∙ files.files;
+      unwritten = λ rec. leaves.takes.unwritten (sym (record_script o.script) ∙ rec);
+    }
+
+    leaves_rings : LeavesItsRings media before s f
+    leaves_rings = record {
+      passed = leaves.rings.passed;
+      genuine = λ t. subst (λ (h : Sounds). AllGenuine h s f.edits.items f.rings.items) (sounds t) (leaves.genuine t);
+      left = leaves.rings.left;
+      acks = leaves.rings.acks;
+      ungranted = leaves.rings.ungranted;
+    }
+
+    are_counted : AreCounted media inputs controls masters before f
+    are_counted = record {
+      reads = subst (λ n. IsCounted n (media.read_faults f.world.media) f.faults.read) reads_same leaves.counts.reads;
+      writes = subst (λ n. IsCounted n (media.write_faults f.world.media) f.faults.write) files.other_count leaves.counts.writes;
+      inputs_are = subst (λ n. IsCounted n (inputs.faults f.world.input) f.faults.input) inputs_same leaves.counts.inputs_are;
+      masters_are = leaves.counts.masters;
+      controls_are = leaves.counts.controls;
+      memory = leaves.counts.memory;
+    }
+
+    -- **it was played**
+    pub is_played : (new : Outcome M I C W O) → HandsOn f new → (head : ReportHead) → head ≡ head_of s o.cycles → Reports outs head f new.status new.world.out →
+        IsPlayed media inputs controls masters outs before request new
+    is_played new hands_on head head_is reports = record {
+      session = s;
+      valid = loaded.loaded.valid;
+      of_file = loaded.of_file;
+      fresh = loaded.fresh;
+      heard = λ t. ap is_ok (heard.told t);
+      finished = f;
+      hands_on = hands_on;
+      lines = leaves.lines.lines;
+      replies = replies;
+      by_lines = by_lines controls outs o events f leaves.lines name;
+      master = gets_master;
+      input = reads_input;
+      takes = leaves_takes;
+      rings = leaves_rings;
+      counted = are_counted;
+      out = tells_out head head_is new.status new.world.out reports;
+    }
