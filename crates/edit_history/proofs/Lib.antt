@@ -1,0 +1,3 @@
+-- How a history grows, and its laws.
+pub mod HistoryLemmas
+pub mod LawLemmas
