@@ -16,6 +16,7 @@ pub mod FlushedLemmas
 pub mod FaultLemmas
 pub mod AnswerLemmas
 pub mod MeetingLemmas
+pub mod TellingLemmas
 pub mod SourceLemmas
 pub mod GrowLemmas
 pub mod FindLemmas

@@ -11,18 +11,19 @@ use Rattle.disk_ring.specs.Sender.{Sender}
 use Rattle.disk_ring.specs.Receiver.{Receiver}
 use Rattle.piece_item.specs.declared.item.Item.{Item}
 use Rattle.piece_item.specs.declared.ack.Ack.{Ack}
+use Rattle.piece_item.specs.declared.butler_ends.ButlerEnds.{ButlerEnds}
 use Rattle.piece_item.specs.declared.take_block.TakeBlock.{TakeBlock}
 use Rattle.piece_item.specs.Views.{item_of}
 use Rattle.capture_flush.specs.Blocks.{Block, block_of}
 use Rattle.capture_flush.specs.Flushed.{IsFlushed, IsFlushedInPart}
 use Rattle.read_ahead.specs.declared.supply.TrackSupply.{TrackSupply}
 use Rattle.read_ahead.specs.Serves.{HasSpare}
-use Rattle.capture_drain.specs.State.{Fits}
+use Rattle.capture_drain.specs.State.{DrainState, Fits}
 use Rattle.capture_drain.specs.Files.{blocks_at}
 use Rattle.butler.specs.Sends.{acks_of}
 use Rattle.butler.specs.Table.{IsTable}
-use Rattle.butler.specs.Serving.{IsTended}
-use Rattle.butler.specs.Laws.{MeetingKeeps}
+use Rattle.butler.specs.Serving.{AreStocked, IsTended}
+use Rattle.butler.specs.Laws.{AreTold, MeetingKeeps}
 
 -- a box that fits a ring fits one of the same room
 pub fits_as : (p : TrackSupply) (d f : Sender Item) → f.room ≡ d.room → HasSpare p d → HasSpare p f
@@ -41,6 +42,19 @@ blocks_same olds news many same = fun_ext (λ t. at t) where
         ap F found.2 ∙ ap (map block_of) (same t c found.0 hc found.2) ∙ sym (ap F hc))
     | inr past ↦ (let far = past.0 in let gone : slice_get olds t ≡ None = slice_get_past olds t (omega arith) in ap F past.1 ∙ sym (ap F gone))
   ]
+
+-- the boxes fit the rings still
+pub stocked_told : (supplies : List TrackSupply) (drain : DrainState) (old new : ButlerEnds) → AreTold old new → AreStocked supplies drain old → AreStocked supplies drain new
+stocked_told supplies drain old new told stocked = record {
+  many = stocked.many ∙ sym told.many;
+  each = λ t p f hp hf. let near = slice_get_within new.sends.items t f hf in let d = get_or old.sends.items t f in let hd = slice_get-get_or old.sends.items t f (omega (arith, told.many)) in
+      fits_as p d f (ap (λ (z : Sender Item). z.room) (told.sends t d f hd hf)) (stocked.each t p d hp hd);
+  takes = record {
+    many = stocked.takes.many ∙ sym told.captures;
+    each = λ t k b hk hb. let near = slice_get_within new.takes.items t b hb in let c = get_or old.takes.items t b in let hc = slice_get-get_or old.takes.items t b (omega (arith, told.captures)) in
+        subst (Fits k) (sym (told.takes t c b hc hb)) (let fits = stocked.takes.each t k c hk hc in record { husk = fits.husk; ended = fits.ended });
+  };
+}
 
 pub meeting_keeps : {V : Type 0} → MeetingKeeps V
 meeting_keeps s edits r old new told = let many = told.many in let captured = told.captures in record {
@@ -63,16 +77,7 @@ meeting_keeps s edits r old new told = let many = told.many in let captured = to
         record { depth = tended.depth; room = tended.room; closed = tended.closed; stands = tended.stands; made = tended.made });
     taking = is.taking;
   };
-  stocked = λ stocked. record {
-    many = stocked.many ∙ sym told.many;
-    each = λ t p f hp hf. let near = slice_get_within new.sends.items t f hf in let d = get_or old.sends.items t f in let hd = slice_get-get_or old.sends.items t f (omega arith) in
-        fits_as p d f (ap (λ (z : Sender Item). z.room) (told.sends t d f hd hf)) (stocked.each t p d hp hd);
-    takes = record {
-      many = stocked.takes.many ∙ sym told.captures;
-      each = λ t k b hk hb. let near = slice_get_within new.takes.items t b hb in let c = get_or old.takes.items t b in let hc = slice_get-get_or old.takes.items t b (omega arith) in
-          subst (Fits k) (sym (told.takes t c b hc hb)) (let fits = stocked.takes.each t k c hk hc in record { husk = fits.husk; ended = fits.ended });
-    };
-  };
+  stocked = stocked_told r.supplies r.drain old new told;
   true_to = λ files is. record {
     lines = is.lines;
     sent = λ t f hf. let near = slice_get_within new.sends.items t f hf in let d = get_or old.sends.items t f in let hd = slice_get-get_or old.sends.items t f (omega arith) in

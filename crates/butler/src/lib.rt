@@ -7,6 +7,7 @@ mod accepting;
 mod butler;
 mod faults;
 mod laws;
+mod meeting;
 mod resting;
 mod steps;
 mod turning;

@@ -9,33 +9,34 @@ use crate::run::Run;
 use ses_io::{Media, Sink, Source};
 
 // Turns and looks in turn, until a turn is idle. A turn that failed isn't.
-fn serve<M: Media, I: Source, W: Sink>(run: Run<M, I, W>) -> Run<M, I, W>
+fn serve<M: Media, I: Source, W: Sink>(run: &mut Run<M, I, W>)
     ghost on: { Started M I W }
-    requires { IsUnderWay M.outside I.outside W.outside on run }
-    ensures under_way { IsUnderWay M.outside I.outside W.outside on result }
-    ensures served { IsServed run result }
-    ensures ends_idle { EndsIdle M.outside on result }
-    ensures as_machine { GoesAsMachine on.begun.session BeforeTurn BeforeEntry run result }
+    requires { IsUnderWay M.outside I.outside W.outside on run.old }
+    ensures under_way { IsUnderWay M.outside I.outside W.outside on run.new }
+    ensures served { IsServed run.old run.new }
+    ensures ends_idle { EndsIdle M.outside on run.new }
+    ensures as_machine { GoesAsMachine on.begun.session BeforeTurn BeforeEntry run.old run.new }
 {
-    let mut run = run;
     'serving: loop {
-        let (turned, idle) = run.turn();
+        let idle = run.turn();
         if idle {
-            return turned;
+            return;
         }
-        run = turned.gather();
+        run.gather();
     }
 }
 
 /// A serial cycle, where one may be made. It takes no memory.
-pub(crate) fn serial_cycle<M: Media, I: Source, W: Sink>(run: Run<M, I, W>) -> Run<M, I, W>
+pub(crate) fn serial_cycle<M: Media, I: Source, W: Sink>(run: &mut Run<M, I, W>)
     ghost on: { Started M I W }
-    requires under_way { IsUnderWay M.outside I.outside W.outside on run }
-    requires may { MayPlay run }
-    ensures under_way { IsUnderWay M.outside I.outside W.outside on result }
-    ensures went_on { WentOn run result }
-    ensures makes { MakesAnEntry run result }
-    ensures as_machine { PlaysAsMachine on.begun.session run result }
+    requires under_way { IsUnderWay M.outside I.outside W.outside on run.old }
+    requires may { MayPlay run.old }
+    ensures under_way { IsUnderWay M.outside I.outside W.outside on run.new }
+    ensures went_on { WentOn run.old run.new }
+    ensures makes { MakesAnEntry run.old run.new }
+    ensures as_machine { PlaysAsMachine on.begun.session run.old run.new }
 {
-    serve(run.enter()).cycle()
+    run.enter();
+    serve(run);
+    run.cycle();
 }

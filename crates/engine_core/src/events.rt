@@ -24,32 +24,21 @@ pub enum Event {
 impl<M: Media, I: Source, C: Source, W: Sink, O: Sink> Engine<M, I, C, W, O> {
     /// One event. What can't be done is left: past the cycles that were asked, after a fault of the
     /// process, or once it has entered a quit the process does nothing.
-    pub fn event(self, event: Event) -> Engine<M, I, C, W, O>
+    pub fn event(&mut self, event: Event)
         ghost on: { Opening M I C W O }
-        requires { MayGoOn M.outside I.outside W.outside on.started self }
-        ensures may { MayGoOn M.outside I.outside W.outside on.started result }
+        requires { MayGoOn M.outside I.outside W.outside on.started self.old }
+        ensures may { MayGoOn M.outside I.outside W.outside on.started self.new }
         ensures goes { GoesOnBy M.outside I.outside C.outside W.outside O.outside on
-            (letter_of event) self result }
+            (letter_of event) self.old self.new }
     {
-        let Engine { run, control } = self;
         match event {
-            Event::Control => Engine { run, control }.carry(),
+            Event::Control => self.carry(),
             Event::Butler => {
-                let (run, _) = run.turn();
-                Engine { run, control }
+                self.run.turn();
             }
-            Event::Enter => Engine {
-                run: run.enter(),
-                control,
-            },
-            Event::Gather => Engine {
-                run: run.gather(),
-                control,
-            },
-            Event::Cycle => Engine {
-                run: run.cycle(),
-                control,
-            },
+            Event::Enter => self.run.enter(),
+            Event::Gather => self.run.gather(),
+            Event::Cycle => self.run.cycle(),
         }
     }
 
@@ -63,7 +52,7 @@ impl<M: Media, I: Source, C: Source, W: Sink, O: Sink> Engine<M, I, C, W, O> {
         let mut engine = self;
         for at in 0..events.len() {
             let event = events[at];
-            engine = engine.event(event);
+            engine.event(event);
         }
         engine
     }

@@ -19,74 +19,64 @@ fn is_idle(answer: &Result<Turn, ButlerFault>) -> bool
 }
 
 impl<M: Media, I: Source, W: Sink> Run<M, I, W> {
-    /// The letter B: a turn of the butler of one item, in the newest edition. Also whether it was Idle.
-    pub fn turn(self) -> (Run<M, I, W>, bool)
+    /// The letter B: a turn of the butler of one item, in the newest edition. Whether it was Idle.
+    pub fn turn(&mut self) -> bool
         ghost on: { Started M I W }
-        requires { IsUnderWay M.outside I.outside W.outside on self }
-        ensures under_way { IsUnderWay M.outside I.outside W.outside on result.0 }
-        ensures turns { TurnsOn M.outside on self result.1 result.0 }
-        ensures letter { TurnIsB on.begun.session self result.1 result.0 }
+        requires { IsUnderWay M.outside I.outside W.outside on self.old }
+        ensures under_way { IsUnderWay M.outside I.outside W.outside on self.new }
+        ensures turns { TurnsOn M.outside on self.old result self.new }
+        ensures letter { TurnIsB on.begun.session self.old result self.new }
     {
-        let Run { pair, failed } = self;
-        let (pair, answer) = pair.turn();
-        let run = Run {
-            pair,
-            failed: failed.after_turn(&answer),
-        };
-        (run, is_idle(&answer))
+        let answer = self.pair.turn();
+        self.failed = self.failed.after_turn(&answer);
+        is_idle(&answer)
     }
 
     /// The letter E: the process enters the newest edition, where it may.
-    pub fn enter(self) -> Run<M, I, W>
+    pub fn enter(&mut self)
         ghost on: { Started M I W }
-        requires { IsUnderWay M.outside I.outside W.outside on self }
-        ensures under_way { IsUnderWay M.outside I.outside W.outside on result }
-        ensures enters { EntersOn self result }
-        ensures letter { EnteringIsE on.begun.session self result }
+        requires { IsUnderWay M.outside I.outside W.outside on self.old }
+        ensures under_way { IsUnderWay M.outside I.outside W.outside on self.new }
+        ensures enters { EntersOn self.old self.new }
+        ensures letter { EnteringIsE on.begun.session self.old self.new }
     {
-        let mut run = self;
-        if !run.failed.has_stopped() {
-            run.pair.enter();
+        if !self.failed.has_stopped() {
+            self.pair.enter();
         }
-        run
     }
 
     /// The letter G: the process enters likewise, and looks once at each track.
-    pub fn gather(self) -> Run<M, I, W>
+    pub fn gather(&mut self)
         ghost on: { Started M I W }
-        requires { IsUnderWay M.outside I.outside W.outside on self }
-        ensures under_way { IsUnderWay M.outside I.outside W.outside on result }
-        ensures gathers { GathersOn self result }
-        ensures looked { result.pair.in_cycle ≡ true
-            → HasLooked (playing_at (now_of on result)) result.pair.process }
-        ensures letter { GatheringIsG on.begun.session self result }
+        requires { IsUnderWay M.outside I.outside W.outside on self.old }
+        ensures under_way { IsUnderWay M.outside I.outside W.outside on self.new }
+        ensures gathers { GathersOn self.old self.new }
+        ensures looked { self.new.pair.in_cycle ≡ true
+            → HasLooked (playing_at (now_of on self.new)) self.new.pair.process }
+        ensures letter { GatheringIsG on.begun.session self.old self.new }
     {
-        let Run { pair, failed } = self.enter();
-        if !pair.in_cycle {
-            return Run { pair, failed };
+        self.enter();
+        if !self.pair.in_cycle {
+            return;
         }
-        let (pair, _) = pair.look();
-        Run { pair, failed }
+        self.pair.look();
     }
 
     /// The letter P: the process does the same, and makes its cycle.
-    pub fn cycle(self) -> Run<M, I, W>
+    pub fn cycle(&mut self)
         ghost on: { Started M I W }
-        requires { IsUnderWay M.outside I.outside W.outside on self }
-        ensures under_way { IsUnderWay M.outside I.outside W.outside on result }
-        ensures cycles { CyclesOn I.outside W.outside on self result }
-        ensures letter { CycleIsP on.begun.session self result }
+        requires { IsUnderWay M.outside I.outside W.outside on self.old }
+        ensures under_way { IsUnderWay M.outside I.outside W.outside on self.new }
+        ensures cycles { CyclesOn I.outside W.outside on self.old self.new }
+        ensures letter { CycleIsP on.begun.session self.old self.new }
     {
-        let Run { pair, failed } = self.gather();
-        if !pair.in_cycle {
-            return Run { pair, failed };
+        self.gather();
+        if !self.pair.in_cycle {
+            return;
         }
         // by which the session of its edition is valid
-        let _session = pair.playing.session();
-        let (pair, answer) = pair.cycle();
-        Run {
-            pair,
-            failed: failed.after_cycle(&answer),
-        }
+        let _session = self.pair.playing.session();
+        let answer = self.pair.cycle();
+        self.failed = self.failed.after_cycle(&answer);
     }
 }

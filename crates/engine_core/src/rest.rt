@@ -1,5 +1,5 @@
 //! The serial rest of a run: a line where one is due, else a cycle, until neither is left.
-ghost use Rattle.std.specs.Prelude.{◌≡◌, ◌<◌, false};
+ghost use Rattle.std.specs.Prelude.{◌≡◌};
 ghost use Rattle.machine_model.specs.Rest.{Between};
 ghost use Rattle.engine_core.specs.Started.{Started};
 ghost use Rattle.engine_core.specs.UnderWay.{IsUnderWay};
@@ -7,7 +7,6 @@ ghost use Rattle.engine_core.specs.Events.{Course, given};
 ghost use Rattle.engine_core.specs.Going.{IsGoing};
 ghost use Rattle.engine_core.specs.Shows.{shows};
 ghost use Rattle.engine_core.specs.Due.{IsFinished, in_rest, is_finished, is_line_due};
-ghost use Rattle.engine_core.specs.Left.{steps_left};
 
 use crate::cycle::serial_cycle;
 use crate::engine::{Engine, progress};
@@ -40,28 +39,6 @@ fn is_finished<M: Media, I: Source, C: Source, W: Sink, O: Sink>(
         && (engine.run.pair.edition.transport().quit || engine.run.is_played_out())
 }
 
-// A line, where one is due; else a cycle.
-fn step<M: Media, I: Source, C: Source, W: Sink, O: Sink>(
-    engine: Engine<M, I, C, W, O>,
-) -> Engine<M, I, C, W, O>
-    ghost on: { Course M I C W O }
-    requires going { IsGoing M.outside I.outside C.outside W.outside O.outside
-        (in_rest Between on) engine }
-    requires unfinished { is_finished engine ≡ false }
-    ensures going { IsGoing M.outside I.outside C.outside W.outside O.outside
-        (in_rest Between on) result }
-    ensures less { steps_left on.opening.cycles result < steps_left on.opening.cycles engine }
-{
-    if is_line_due(&engine) {
-        return engine.carry();
-    }
-    let Engine { run, control } = engine;
-    Engine {
-        run: serial_cycle(run),
-        control,
-    }
-}
-
 /// The serial rest of a run whose letters are over, but for the butler's last turns. While something
 /// is awaited cycles are made, until it is over; then the next line is carried out. Once control has
 /// ended cycles are made until no further one can run; after a quit none is. It takes no memory.
@@ -76,7 +53,11 @@ pub fn play_on<M: Media, I: Source, C: Source, W: Sink, O: Sink>(
 {
     let mut engine = engine;
     'playing: while !is_finished(&engine) {
-        engine = step(engine);
+        if is_line_due(&engine) {
+            engine.carry();
+        } else {
+            serial_cycle(&mut engine.run);
+        }
     }
     engine
 }

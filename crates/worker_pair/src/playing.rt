@@ -37,90 +37,56 @@ impl<M: Media, I: Source, W: Sink> Pair<M, I, W> {
 
     /// One look of the process at each track in the edition that it entered, where a cycle is
     /// open, and a meeting of the ends.
-    pub fn look(self) -> (Pair<M, I, W>, Look)
+    pub fn look(&mut self) -> Look
         ghost at: { At }
-        requires runs { Runs M.outside I.outside W.outside at self }
-        requires in_cycle { self.in_cycle ≡ true }
-        ensures runs { Runs M.outside I.outside W.outside (looked self.playing.edits at) result.0 }
-        ensures looked { HasLooked (playing_at (looked self.playing.edits at)) result.0.process }
-        ensures looks { Looks self result.0 }
-        ensures answer { LookAnswers self.playing.transport.rolling self.process result.1
-            result.0.process }
-        ensures as_machine { LooksAsMachine at.begun.session self result.0 }
+        requires runs { Runs M.outside I.outside W.outside at self.old }
+        requires in_cycle { self.old.in_cycle ≡ true }
+        ensures runs { Runs M.outside I.outside W.outside
+            (looked self.old.playing.edits at) self.new }
+        ensures looked { HasLooked (playing_at (looked self.old.playing.edits at))
+            self.new.process }
+        ensures looks { Looks self.old self.new }
+        ensures answer { LookAnswers self.old.playing.transport.rolling self.old.process result
+            self.new.process }
+        ensures as_machine { LooksAsMachine at.begun.session self.old self.new }
     {
-        let mut pair = self;
-        pair.played = pair.playing.number();
-        let answer = pair.process.gather(&pair.playing);
-        (pair.meet(), answer)
+        self.played = self.playing.number();
+        let answer = self.process.gather(&self.playing);
+        self.meet();
+        answer
     }
 
     // The two ends of each ring tell each other what they know. Nothing else changes.
-    fn meet(self) -> Pair<M, I, W>
+    fn meet(&mut self)
         ghost at: { Playing }
-        requires { AreOtherEnds self.process.ends self.butler.ends }
-        ensures same { result ≡ record self { butler = result.butler; process = result.process } }
-        ensures meets { MeetsAfter self self.process result }
-        ensures playing { IsPlaying I.outside at self.process
-            → IsPlaying I.outside at result.process }
-        ensures looked { HasLooked at self.process → HasLooked at result.process }
-        ensures master { IsMastered W.outside at self.process
-            → IsMastered W.outside at result.process }
+        requires { AreOtherEnds self.old.process.ends self.old.butler.ends }
+        ensures same { self.new ≡ record self.old
+            { butler = self.new.butler; process = self.new.process } }
+        ensures meets { MeetsAfter self.old self.old.process self.new }
+        ensures playing { IsPlaying I.outside at self.old.process
+            → IsPlaying I.outside at self.new.process }
+        ensures looked { HasLooked at self.old.process → HasLooked at self.new.process }
+        ensures master { IsMastered W.outside at self.old.process
+            → IsMastered W.outside at self.new.process }
     {
-        let Pair {
-            edition,
-            playing,
-            in_cycle,
-            butler,
-            mut process,
-            acks,
-            played,
-        } = self;
-        let (resting, mut theirs) = butler.rest();
-        process.meet(&mut theirs);
-        Pair {
-            edition,
-            playing,
-            in_cycle,
-            butler: resting.resume(theirs),
-            process,
-            acks,
-            played,
-        }
+        self.butler.meet(&mut self.process);
     }
 
     /// One cycle of the process in the edition of its last look, and a meeting of the ends. After a
     /// fault no entry is made. No cycle is open after it.
-    pub fn cycle(self) -> (Pair<M, I, W>, Result<(), CycleFault>)
+    pub fn cycle(&mut self) -> Result<(), CycleFault>
         ghost at: { At }
-        requires { MayCycle M.outside I.outside W.outside at self }
-        ensures runs { OnOk result.1 (Runs M.outside I.outside W.outside at result.0) }
-        ensures rests { Rests M.outside at result.0 }
-        ensures hears { HearsInput I.outside at result.0 }
-        ensures cycles { Cycles I.outside W.outside at self result.1 result.0 }
-        ensures as_machine { EndsAsMachine at.begun.session self result.1 result.0 }
+        requires { MayCycle M.outside I.outside W.outside at self.old }
+        ensures runs { OnOk result (Runs M.outside I.outside W.outside at self.new) }
+        ensures rests { Rests M.outside at self.new }
+        ensures hears { HearsInput I.outside at self.new }
+        ensures cycles { Cycles I.outside W.outside at self.old result self.new }
+        ensures as_machine { EndsAsMachine at.begun.session self.old result self.new }
     {
-        let Pair {
-            edition,
-            playing,
-            in_cycle: _,
-            butler,
-            mut process,
-            acks,
-            played,
-        } = self;
-        let answer = process.cycle(&playing);
-        let (resting, mut theirs) = butler.rest();
-        process.meet(&mut theirs);
-        let pair = Pair {
-            edition,
-            playing,
-            in_cycle: false,
-            butler: resting.resume(theirs),
-            process,
-            acks,
-            played,
-        };
-        (pair, answer)
+        let answer = self.process.cycle(&self.playing);
+        self.butler.meet(&mut self.process);
+        self.in_cycle = false;
+        answer
     }
 
     /// Writes silence for the cycles that weren't made, and the pad byte. Its one fault is

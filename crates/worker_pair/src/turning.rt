@@ -35,41 +35,21 @@ impl<M: Media, I: Source, W: Sink> Pair<M, I, W> {
     }
 
     /// A turn of the butler, of one item, and a meeting of the ends.
-    pub fn turn(self) -> (Pair<M, I, W>, Result<Turn, ButlerFault>)
+    pub fn turn(&mut self) -> Result<Turn, ButlerFault>
         ghost at: { At }
-        requires { Rests M.outside at self }
-        ensures rests { Rests M.outside (turned self.edition.edits at) result.0 }
-        ensures runs { Runs M.outside I.outside W.outside at self
-            → Runs M.outside I.outside W.outside (turned self.edition.edits at) result.0 }
-        ensures mastered { IsMastered W.outside (playing_at at) self.process
-            → IsMastered W.outside (playing_at at) result.0.process }
-        ensures hears { HearsInput I.outside at self → HearsInput I.outside at result.0 }
-        ensures same { TurnsOnly self result.0 }
-        ensures turns { Turns M.outside at (rings_of self) result.1 (rings_of result.0) }
-        ensures as_machine { PairTurnsAsMachine at.begun.session self result.1 result.0 }
+        requires { Rests M.outside at self.old }
+        ensures rests { Rests M.outside (turned self.old.edition.edits at) self.new }
+        ensures runs { Runs M.outside I.outside W.outside at self.old
+            → Runs M.outside I.outside W.outside (turned self.old.edition.edits at) self.new }
+        ensures mastered { IsMastered W.outside (playing_at at) self.old.process
+            → IsMastered W.outside (playing_at at) self.new.process }
+        ensures hears { HearsInput I.outside at self.old → HearsInput I.outside at self.new }
+        ensures same { TurnsOnly self.old self.new }
+        ensures turns { Turns M.outside at (rings_of self.old) result (rings_of self.new) }
+        ensures as_machine { PairTurnsAsMachine at.begun.session self.old result self.new }
     {
-        let Pair {
-            edition,
-            playing,
-            in_cycle,
-            mut butler,
-            mut process,
-            acks,
-            played,
-        } = self;
-        let answer = butler.turn(&edition, 1);
-        let (resting, mut theirs) = butler.rest();
-        process.meet(&mut theirs);
-        let butler = resting.resume(theirs);
-        let pair = Pair {
-            edition,
-            playing,
-            in_cycle,
-            butler,
-            process,
-            acks,
-            played,
-        };
-        (pair, answer)
+        let answer = self.butler.turn(&self.edition, 1);
+        self.butler.meet(&mut self.process);
+        answer
     }
 }

@@ -7,17 +7,17 @@ use Rattle.engine_core.proofs.cycle.serial_cycle.Goals as goal
 
 -- src/cycle.rt
 pub returns-clause-went_on : goal.returns-clause-went_on
-returns-clause-went_on g c = cycle.cycle_goes_on g.M.Media.outside g.I.Source.outside g.W.Sink.outside g.on c.args.run c.serve.result c.cycle.result c.requires.1.1.1.1.can_run
-    (serve.served_on c.args.run c.enter.result c.serve.result (serve.enter_serves c.args.run c.enter.result c.enter.ensures.enters) c.serve.ensures.served) c.serve.ensures.under_way c.cycle.ensures.cycles
+returns-clause-went_on g c = cycle.cycle_goes_on g.M.Media.outside g.I.Source.outside g.W.Sink.outside g.on c.args.run.now c.serve.new.run c.cycle.new.self c.requires.1.1.1.1.can_run
+    (serve.served_on c.args.run.now c.enter.new.self c.serve.new.run (serve.enter_serves c.args.run.now c.enter.new.self c.enter.ensures.enters) c.serve.ensures.served) c.serve.ensures.under_way c.cycle.ensures.cycles
 
 pub returns-clause-makes : goal.returns-clause-makes
 returns-clause-makes g c = let M = g.M.Media.outside in let I = g.I.Source.outside in let W = g.W.Sink.outside in let may = c.requires.1.1.1.1 in
-    cycle.cycle_is_made M I W g.on c.args.run c.serve.result c.cycle.result may.can_run
-    (serve.served_on c.args.run c.enter.result c.serve.result (serve.enter_serves c.args.run c.enter.result c.enter.ensures.enters) c.serve.ensures.served)
-    (c.serve.ensures.served.stays_open (cycle.entered_opens M I W g.on c.args.run c.enter.result may c.enter.ensures.enters c.enter.ensures.under_way)) c.cycle.ensures.cycles
+    cycle.cycle_is_made M I W g.on c.args.run.now c.serve.new.run c.cycle.new.self may.can_run
+    (serve.served_on c.args.run.now c.enter.new.self c.serve.new.run (serve.enter_serves c.args.run.now c.enter.new.self c.enter.ensures.enters) c.serve.ensures.served)
+    (c.serve.ensures.served.stays_open (cycle.entered_opens M I W g.on c.args.run.now c.enter.new.self may c.enter.ensures.enters c.enter.ensures.under_way)) c.cycle.ensures.cycles
 
 pub returns-clause-as_machine : goal.returns-clause-as_machine
-returns-clause-as_machine g c = let s = g.on.begun.session in let entered = c.enter.result in let served = c.serve.result in let new = c.cycle.result in
+returns-clause-as_machine g c = let s = g.on.begun.session in let entered = c.enter.new.self in let served = c.serve.new.run in let new = c.cycle.new.self in
     let fine = (cycle_went g.M.Media.outside g.I.Source.outside g.W.Sink.outside g.on served new c.serve.ensures.under_way c.cycle.ensures.cycles).fine in
-    machine.cycle_plays s c.args.run entered new (serve.enter_serves c.args.run entered c.enter.ensures.enters).asked (λ ok. c.serve.ensures.served.fine (fine ok)) c.enter.ensures.letter
+    machine.cycle_plays s c.args.run.now entered new (serve.enter_serves c.args.run.now entered c.enter.ensures.enters).asked (λ ok. c.serve.ensures.served.fine (fine ok)) c.enter.ensures.letter
     (machine.leads_then s BeforeTurn BeforeEntry Between entered served new c.serve.ensures.served.asked fine c.serve.ensures.as_machine (machine.cycle_leads s served new c.cycle.ensures.letter))

@@ -8,8 +8,8 @@ use Rattle.engine_core.proofs.cycle.serve.Given as goal
 abbrev pub invariant-serving : goal.invariant-serving
 invariant-serving g l = record {
   under_way : IsUnderWay g.M.Media.outside g.I.Source.outside g.W.Sink.outside g.on l.run;
-  served : IsServed l.fn.run l.run;
-  as_machine : GoesAsMachine g.on.begun.session BeforeTurn BeforeTurn l.fn.run l.run;
+  served : IsServed l.initial.run l.run;
+  as_machine : GoesAsMachine g.on.begun.session BeforeTurn BeforeTurn l.initial.run l.run;
 }
 
 abbrev pub decreases-serving : goal.decreases-serving

@@ -13,5 +13,11 @@ decreases-playing g l = steps_left g.on.opening.cycles l.engine
 abbrev pub ghost-is_finished : goal.ghost-is_finished
 ghost-is_finished g a = g.on.opening.started
 
-abbrev pub ghost-step : goal.ghost-step
-ghost-step g a = g.on
+abbrev pub ghost-is_line_due : goal.ghost-is_line_due
+ghost-is_line_due g a = g.on.opening.started
+
+abbrev pub ghost-carry : goal.ghost-carry
+ghost-carry g a = g.on.opening.started
+
+abbrev pub ghost-serial_cycle : goal.ghost-serial_cycle
+ghost-serial_cycle g a = g.on.opening.started

@@ -9,8 +9,8 @@ use Rattle.engine_core.proofs.engine.Engine.events.Goals as goal
 -- src/events.rt
 pub loop-at-preserved : goal.loop-at-preserved
 loop-at-preserved g c = let events = c.args.events.now in
-    subst (λ l. IsGoing g.M.Media.outside g.I.Source.outside g.C.Source.outside g.W.Sink.outside g.O.Sink.outside (given (record g.on { letters = l })) c.event-engine.result)
-    (one_more g.on.letters events c.loop-at.at Control c.loop-at-test.true) (c.event-engine.ensures.goes (g.on.letters ++ map letter_of (take c.loop-at.at events)) c.loop-at.invariant)
+    subst (λ l. IsGoing g.M.Media.outside g.I.Source.outside g.C.Source.outside g.W.Sink.outside g.O.Sink.outside (given (record g.on { letters = l })) c.event.new.self)
+    (one_more g.on.letters events c.loop-at.at Control c.loop-at-test.true) (c.event.ensures.goes (g.on.letters ++ map letter_of (take c.loop-at.at events)) c.loop-at.invariant)
 
 pub returns : goal.returns
 returns g c = subst (λ l. IsGoing g.M.Media.outside g.I.Source.outside g.C.Source.outside g.W.Sink.outside g.O.Sink.outside (given (and_given l g.on)) c.loop-at.engine)

@@ -6,4 +6,4 @@ abbrev pub ghost-gather : goal.ghost-gather
 ghost-gather g a = g.on
 
 abbrev pub ghost-cycle : goal.ghost-cycle
-ghost-cycle g a = at_now g.on.begun true a.self
+ghost-cycle g a = at_now g.on.begun true a.self.now

@@ -6,4 +6,4 @@ abbrev pub ghost-enter : goal.ghost-enter
 ghost-enter g a = g.on
 
 abbrev pub ghost-look : goal.ghost-look
-ghost-look g a = at_now g.on.begun true a.self
+ghost-look g a = at_now g.on.begun true a.self.now

@@ -3,4 +3,4 @@ use Rattle.worker_pair.specs.Runs.{at_now}
 use Rattle.engine_core.proofs.run.Run.turn.Given as goal
 
 abbrev pub ghost-turn : goal.ghost-turn
-ghost-turn g a = at_now g.on.begun true a.self
+ghost-turn g a = at_now g.on.begun true a.self.now

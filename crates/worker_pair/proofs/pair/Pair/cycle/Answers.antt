@@ -1,10 +1,6 @@
-use Rattle.std.proofs.Common.{sym, ap, subst, ◌∙◌}
+use Rattle.std.proofs.Common.{sym, subst}
 use Rattle.std.specs.Prelude.{OnOk}
 use Rattle.std.proofs.lemmas.Result.{on_ok_weaker}
-use Rattle.butler.specs.ButlerState.{resumed}
-use Rattle.butler.specs.Serving.{AreStocked}
-use Rattle.butler.proofs.MeetingLemmas.{meeting_keeps}
-use Rattle.process_cycle.specs.Ends.{AreOtherEnds, EndsMeet}
 use Rattle.process_cycle.specs.Playing.{IsPlaying}
 use Rattle.process_cycle.specs.Promised.{IsMastered}
 use Rattle.worker_pair.specs.Begun.{playing_at}
@@ -12,7 +8,6 @@ use Rattle.worker_pair.specs.Plays.{Cycles}
 use Rattle.worker_pair.specs.Runs.{HearsInput, Rests, Runs}
 use Rattle.worker_pair.specs.Steps.{EndsAsMachine}
 use Rattle.worker_pair.proofs.AnswerLemmas as answers
-use Rattle.worker_pair.proofs.MetLemmas.{are_told}
 use Rattle.worker_pair.proofs.pair.Pair.cycle.Goals as goal
 
 pub cycle-answer-requires : goal.cycle-answer-requires
@@ -22,53 +17,46 @@ cycle-answer-requires g c κs within = let may = c.requires.1.1.1 in let was = m
 )
 
 pub meet-requires : goal.meet-requires
-meet-requires g c κs within = let M = g.M.Media.outside in let I = g.I.Source.outside in let W = g.W.Sink.outside in let self = c.args.self in let may = c.requires.1.1.1 in
+meet-requires g c κs within = let M = g.M.Media.outside in let I = g.I.Source.outside in let W = g.W.Sink.outside in let self = c.args.self.now in let may = c.requires.1.1.1 in
     let q = c.cycle-answer.new.self in let cycle = c.cycle-answer.ensures in let answer = c.cycle-answer.result in
-    (within.0, (within.1, subst (AreOtherEnds q.ends) (sym c.rest-resting.ensures.ends) (answers.others_either M I W g.at self may q answer cycle.made cycle.fault)))
-
-pub resume-requires-clause-stocked : goal.resume-requires-clause-stocked
-resume-requires-clause-stocked g c = let M = g.M.Media.outside in let I = g.I.Source.outside in let W = g.W.Sink.outside in let self = c.args.self in let may = c.requires.1.1.1 in
-    let q = c.cycle-answer.new.self in let cycle = c.cycle-answer.ensures in let answer = c.cycle-answer.result in let ours = c.meet.new.self.ends in let theirs = c.meet.new.other in
-    let ends : EndsMeet q.ends self.butler.ends ours theirs = subst (λ e. EndsMeet q.ends e ours theirs) c.rest-resting.ensures.ends c.meet.ensures.ends in let r = c.rest-resting.result.0 in
-    (meeting_keeps self.edition.session self.edition.edits r self.butler.ends theirs (are_told q.ends ours self.butler.ends theirs (answers.others_either M I W g.at self may q answer cycle.made cycle.fault) ends)).stocked
-    (subst (AreStocked r.supplies r.drain) c.rest-resting.ensures.ends c.rest-resting.ensures.stocked)
+    (within.0, (within.1.0, (within.1.1, answers.others_either M I W g.at self may q answer cycle.made cycle.fault)))
 
 pub returns-clause-runs : goal.returns-clause-runs
-returns-clause-runs g c = let M = g.M.Media.outside in let I = g.I.Source.outside in let W = g.W.Sink.outside in let self = c.args.self in let may = c.requires.1.1.1 in
-    let q = c.cycle-answer.new.self in let cycle = c.cycle-answer.ensures in let answer = c.cycle-answer.result in let ours = c.meet.new.self.ends in let theirs = c.meet.new.other in
-    let ends : EndsMeet q.ends self.butler.ends ours theirs = subst (λ e. EndsMeet q.ends e ours theirs) c.rest-resting.ensures.ends c.meet.ensures.ends in
-    let whole = answers.whole M I W g.at self may q ours theirs ends c.resume.result c.meet.new.self (c.resume.ensures ∙ ap (λ r. resumed r theirs) c.rest-resting.ensures.rested) c.meet.ensures.same in
+returns-clause-runs g c = let M = g.M.Media.outside in let I = g.I.Source.outside in let W = g.W.Sink.outside in let self = c.args.self.now in let may = c.requires.1.1.1 in
+    let q = c.cycle-answer.new.self in let cycle = c.cycle-answer.ensures in let answer = c.cycle-answer.result in let ours = c.meet.new.process.ends in let theirs = c.meet.new.self.ends in
+    let ends = c.meet.ensures.ends in
+    let whole = answers.whole M I W g.at self may q ours theirs ends c.meet.new.self c.meet.new.process c.meet.ensures.same c.meet.ensures.process in
     subst (λ p. OnOk answer (Runs M I W g.at p)) (sym whole) (answers.runs_either M I W g.at self may q ours theirs ends answer cycle.made
-    (on_ok_weaker answer (λ playing. subst (IsPlaying I (playing_at g.at)) c.meet.ensures.same (c.meet.ensures.playing playing)) cycle.playing)
-    (on_ok_weaker answer (λ mastered head. subst (IsMastered W (playing_at g.at)) c.meet.ensures.same (c.meet.ensures.master (mastered (may.runs.mastered head)))) cycle.master))
+    (on_ok_weaker answer (λ playing. subst (IsPlaying I (playing_at g.at)) c.meet.ensures.process (c.meet.ensures.playing playing)) cycle.playing)
+    (on_ok_weaker answer (λ mastered head. subst (IsMastered W (playing_at g.at)) c.meet.ensures.process (c.meet.ensures.master (mastered (may.runs.mastered head)))) cycle.master))
 
 pub returns-clause-rests : goal.returns-clause-rests
-returns-clause-rests g c = let M = g.M.Media.outside in let I = g.I.Source.outside in let W = g.W.Sink.outside in let self = c.args.self in let may = c.requires.1.1.1 in
-    let q = c.cycle-answer.new.self in let cycle = c.cycle-answer.ensures in let answer = c.cycle-answer.result in let ours = c.meet.new.self.ends in let theirs = c.meet.new.other in
-    let ends : EndsMeet q.ends self.butler.ends ours theirs = subst (λ e. EndsMeet q.ends e ours theirs) c.rest-resting.ensures.ends c.meet.ensures.ends in
-    let whole = answers.whole M I W g.at self may q ours theirs ends c.resume.result c.meet.new.self (c.resume.ensures ∙ ap (λ r. resumed r theirs) c.rest-resting.ensures.rested) c.meet.ensures.same in
+returns-clause-rests g c = let M = g.M.Media.outside in let I = g.I.Source.outside in let W = g.W.Sink.outside in let self = c.args.self.now in let may = c.requires.1.1.1 in
+    let q = c.cycle-answer.new.self in let cycle = c.cycle-answer.ensures in let answer = c.cycle-answer.result in let ours = c.meet.new.process.ends in let theirs = c.meet.new.self.ends in
+    let ends = c.meet.ensures.ends in
+    let whole = answers.whole M I W g.at self may q ours theirs ends c.meet.new.self c.meet.new.process c.meet.ensures.same c.meet.ensures.process in
     subst (Rests M g.at) (sym whole) (answers.rests_either M I W g.at self may q ours theirs ends answer (answers.runs_either M I W g.at self may q ours theirs ends answer cycle.made
-    (on_ok_weaker answer (λ playing. subst (IsPlaying I (playing_at g.at)) c.meet.ensures.same (c.meet.ensures.playing playing)) cycle.playing)
-    (on_ok_weaker answer (λ mastered head. subst (IsMastered W (playing_at g.at)) c.meet.ensures.same (c.meet.ensures.master (mastered (may.runs.mastered head)))) cycle.master)) cycle.fault cycle.of)
+    (on_ok_weaker answer (λ playing. subst (IsPlaying I (playing_at g.at)) c.meet.ensures.process (c.meet.ensures.playing playing)) cycle.playing)
+    (on_ok_weaker answer (λ mastered head. subst (IsMastered W (playing_at g.at)) c.meet.ensures.process (c.meet.ensures.master (mastered (may.runs.mastered head)))) cycle.master)) cycle.fault cycle.of)
 
 pub returns-clause-hears : goal.returns-clause-hears
-returns-clause-hears g c = let M = g.M.Media.outside in let I = g.I.Source.outside in let W = g.W.Sink.outside in let self = c.args.self in let may = c.requires.1.1.1 in
-    let q = c.cycle-answer.new.self in let cycle = c.cycle-answer.ensures in let answer = c.cycle-answer.result in let ours = c.meet.new.self.ends in let theirs = c.meet.new.other in
-    let ends : EndsMeet q.ends self.butler.ends ours theirs = subst (λ e. EndsMeet q.ends e ours theirs) c.rest-resting.ensures.ends c.meet.ensures.ends in
-    let whole = answers.whole M I W g.at self may q ours theirs ends c.resume.result c.meet.new.self (c.resume.ensures ∙ ap (λ r. resumed r theirs) c.rest-resting.ensures.rested) c.meet.ensures.same in
+returns-clause-hears g c = let M = g.M.Media.outside in let I = g.I.Source.outside in let W = g.W.Sink.outside in let self = c.args.self.now in let may = c.requires.1.1.1 in
+    let q = c.cycle-answer.new.self in let cycle = c.cycle-answer.ensures in let answer = c.cycle-answer.result in let ours = c.meet.new.process.ends in let theirs = c.meet.new.self.ends in
+    let ends = c.meet.ensures.ends in
+    let whole = answers.whole M I W g.at self may q ours theirs ends c.meet.new.self c.meet.new.process c.meet.ensures.same c.meet.ensures.process in
     subst (HearsInput I g.at) (sym whole) (answers.hears_either M I W g.at self may q ours theirs ends answer
-    (on_ok_weaker answer (λ playing. subst (IsPlaying I (playing_at g.at)) c.meet.ensures.same (c.meet.ensures.playing playing)) cycle.playing) cycle.fault cycle.reads)
+    (on_ok_weaker answer (λ playing. subst (IsPlaying I (playing_at g.at)) c.meet.ensures.process (c.meet.ensures.playing playing)) cycle.playing) cycle.fault cycle.reads)
 
 pub returns-clause-cycles : goal.returns-clause-cycles
-returns-clause-cycles g c = let M = g.M.Media.outside in let I = g.I.Source.outside in let W = g.W.Sink.outside in let self = c.args.self in let may = c.requires.1.1.1 in
-    let q = c.cycle-answer.new.self in let cycle = c.cycle-answer.ensures in let answer = c.cycle-answer.result in let ours = c.meet.new.self.ends in let theirs = c.meet.new.other in
-    let ends : EndsMeet q.ends self.butler.ends ours theirs = subst (λ e. EndsMeet q.ends e ours theirs) c.rest-resting.ensures.ends c.meet.ensures.ends in
-    let whole = answers.whole M I W g.at self may q ours theirs ends c.resume.result c.meet.new.self (c.resume.ensures ∙ ap (λ r. resumed r theirs) c.rest-resting.ensures.rested) c.meet.ensures.same in
+returns-clause-cycles g c = let M = g.M.Media.outside in let I = g.I.Source.outside in let W = g.W.Sink.outside in let self = c.args.self.now in let may = c.requires.1.1.1 in
+    let q = c.cycle-answer.new.self in let cycle = c.cycle-answer.ensures in let answer = c.cycle-answer.result in let ours = c.meet.new.process.ends in let theirs = c.meet.new.self.ends in
+    let ends = c.meet.ensures.ends in
+    let whole = answers.whole M I W g.at self may q ours theirs ends c.meet.new.self c.meet.new.process c.meet.ensures.same c.meet.ensures.process in
     subst (Cycles I W g.at self answer) (sym whole) (answers.cycles_either M I W g.at self may q ours theirs ends answer cycle.made cycle.reads cycle.writes cycle.fault)
 
 pub returns-clause-as_machine : goal.returns-clause-as_machine
-returns-clause-as_machine g c = let M = g.M.Media.outside in let I = g.I.Source.outside in let W = g.W.Sink.outside in let self = c.args.self in let may = c.requires.1.1.1 in
-    let q = c.cycle-answer.new.self in let cycle = c.cycle-answer.ensures in let answer = c.cycle-answer.result in let ours = c.meet.new.self.ends in let theirs = c.meet.new.other in
-    let ends : EndsMeet q.ends self.butler.ends ours theirs = subst (λ e. EndsMeet q.ends e ours theirs) c.rest-resting.ensures.ends c.meet.ensures.ends in
-    let whole = answers.whole M I W g.at self may q ours theirs ends c.resume.result c.meet.new.self (c.resume.ensures ∙ ap (λ r. resumed r theirs) c.rest-resting.ensures.rested) c.meet.ensures.same in
+returns-clause-as_machine g c = let M = g.M.Media.outside in let I = g.I.Source.outside in let W = g.W.Sink.outside in let self = c.args.self.now in let may = c.requires.1.1.1 in
+    let q = c.cycle-answer.new.self in let cycle = c.cycle-answer.ensures in let answer = c.cycle-answer.result in let ours = c.meet.new.process.ends in let theirs = c.meet.new.self.ends in
+    let ends = c.meet.ensures.ends in
+    let whole = answers.whole M I W g.at self may q ours theirs ends c.meet.new.self c.meet.new.process c.meet.ensures.same c.meet.ensures.process in
     subst (EndsAsMachine g.at.begun.session self answer) (sym whole) (answers.ends_either M I W g.at self may q ours theirs ends answer cycle.made)

@@ -5,4 +5,4 @@ abbrev pub ghost-gather : goal.ghost-gather
 ghost-gather g a = playing_at g.at
 
 abbrev pub ghost-meet : goal.ghost-meet
-ghost-meet g a = playing_at (looked a.self.playing.edits g.at)
+ghost-meet g a = playing_at (looked a.self.now.playing.edits g.at)
