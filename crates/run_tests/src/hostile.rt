@@ -41,6 +41,14 @@ const ENDLESS_LINE: Row = Row {
     ..EMPTY_LINES
 };
 
+// So many empty lines.
+const ENDLESS_CONTROL: Row = Row {
+    name: "endless control",
+    status: 17,
+    line: "error control-too-long\n",
+    ..EMPTY_LINES
+};
+
 const LONGEST_LINE: Row = Row {
     name: "longest line",
     replies: "refused long\n",
@@ -88,6 +96,12 @@ fn empty_lines_have_no_reply(rt: HostRuntime) {
 fn a_line_that_ends_at_the_limit_is_answered(rt: HostRuntime) {
     let ended = ran_under(&rt, rt.alloc(), &ENDLESS_LINE, 16_777_216, b'x', b"");
     leaves(&rt, rt.alloc(), &ENDLESS_LINE, ended);
+}
+
+#[test]
+fn empty_lines_are_read_up_to_the_limit(rt: HostRuntime) {
+    let ended = ran_under(&rt, rt.alloc(), &ENDLESS_CONTROL, 16_777_216, b'\n', b"");
+    leaves(&rt, rt.alloc(), &ENDLESS_CONTROL, ended);
 }
 
 #[test]

@@ -12,7 +12,7 @@ use Rattle.session_run.specs.Headline.{EndsAsAsked, LeavesTheMaster, PlaysAsAske
 use Rattle.session_run.specs.Rendered.{GetsTheRender}
 use Rattle.session_run.specs.Replied.{IsOwnText, WritesItsOwn}
 use Rattle.session_run.specs.Status.{IsOfRender, IsStatusOf, ReadsFailed, WritesFailed}
-use Rattle.session_run.specs.Tasks.{Task, Runs, Migrates, Checks, Renders}
+use Rattle.session_run.specs.Tasks.{Task, Runs, Migrates, Checks, Renders, Verifies, Gens}
 use Rattle.session_run.proofs.OutLemmas.{none_written}
 use Rattle.session_run.proofs.StatusLemmas as status
 
@@ -44,6 +44,8 @@ module _ {M I C W O : Type 0} (outside : MediaOutside M) (inputs : SourceOutside
   not_rendered (Some (Migrates name)) other = tt
   not_rendered (Some (Checks name)) other = tt
   not_rendered (Some (Renders r)) other = absurd other
+  not_rendered (Some (Verifies v)) other = tt
+  not_rendered (Some (Gens n)) other = tt
   not_rendered None other = tt
 
   no_rings : (asked : Option Task) → LeavesTheMaster asked → new.journal ≡ None → new.rings.items ≡ [] → new.acks ≡ None → PlaysAsAsked outside inputs controls sink out old asked new
@@ -51,6 +53,8 @@ module _ {M I C W O : Type 0} (outside : MediaOutside M) (inputs : SourceOutside
   no_rings (Some (Migrates name)) other journal rings acks = record { journal = journal; rings = rings; acks = acks }
   no_rings (Some (Checks name)) other journal rings acks = record { journal = journal; rings = rings; acks = acks }
   no_rings (Some (Renders r)) other journal rings acks = absurd other
+  no_rings (Some (Verifies v)) other journal rings acks = record { journal = journal; rings = rings; acks = acks }
+  no_rings (Some (Gens n)) other journal rings acks = record { journal = journal; rings = rings; acks = acks }
   no_rings None other journal rings acks = record { journal = journal; rings = rings; acks = acks }
 
   -- what reads the media and writes to out alone

@@ -7,4 +7,5 @@ pub mod RunLemmas
 pub mod TopLemmas
 pub mod MigratedLemmas
 pub mod RenderLemmas
+pub mod VerifyLemmas
 mod CheckVectors

@@ -13,8 +13,8 @@ use Rattle.session_play.specs.Unplayed.{Gets, GetsAFront}
 use Rattle.session_run.specs.Carried.{CarriesOut}
 use Rattle.session_run.specs.Headline.{Does, EndsAsAsked, FaultsHaveCauses, HasCauses, IsComplete, LeavesAlone, LeavesTheRest, PlaysAsAsked, RendersAsAsked, RepliesAsAsked}
 use Rattle.session_run.specs.Replied.{IsOwnText, Replies, WritesItsLine}
-use Rattle.session_run.specs.Status.{RepliesFailed}
-use Rattle.session_run.specs.Tasks.{Task, Runs, Migrates, Checks, Renders}
+use Rattle.session_run.specs.Status.{IsStatusOf, RepliesFailed}
+use Rattle.session_run.specs.Tasks.{Task, Runs, Migrates, Checks, Renders, Verifies, Gens}
 use Rattle.session_run.proofs.StatusLemmas as status
 
 done_fails : Done ≡ OutFault → ⊥
@@ -29,6 +29,8 @@ IsOther (Some (Runs r)) = ⊥
 IsOther (Some (Migrates name)) = Unit {0}
 IsOther (Some (Checks name)) = Unit {0}
 IsOther (Some (Renders r)) = Unit {0}
+IsOther (Some (Verifies v)) = Unit {0}
+IsOther (Some (Gens n)) = Unit {0}
 IsOther None = Unit {0}
 
 module _ {M I C W O : Type 0} (media : MediaOutside M) (inputs : SourceOutside I) (controls : SourceOutside C) (master : SinkOutside W) (out : SinkOutside O) (old : World M I C W O) (ended : Outcome M I C W O) (o : O) where
@@ -42,6 +44,8 @@ module _ {M I C W O : Type 0} (media : MediaOutside M) (inputs : SourceOutside I
   played (Some (Migrates name)) other h = record { journal = h.journal; rings = h.rings; acks = h.acks }
   played (Some (Checks name)) other h = record { journal = h.journal; rings = h.rings; acks = h.acks }
   played (Some (Renders r)) other h = record { unplayed = record { journal = h.unplayed.journal; rings = h.unplayed.rings; acks = h.unplayed.acks }; refused = h.refused }
+  played (Some (Verifies v)) other h = record { journal = h.journal; rings = h.rings; acks = h.acks }
+  played (Some (Gens n)) other h = record { journal = h.journal; rings = h.rings; acks = h.acks }
   played None other h = record { journal = h.journal; rings = h.rings; acks = h.acks }
 
   rendered : (asked : Option Task) → RendersAsAsked media master old asked ended → RendersAsAsked media master old asked new
@@ -49,6 +53,8 @@ module _ {M I C W O : Type 0} (media : MediaOutside M) (inputs : SourceOutside I
   rendered (Some (Migrates name)) is = is
   rendered (Some (Checks name)) is = is
   rendered (Some (Renders r)) is = is
+  rendered (Some (Verifies v)) is = is
+  rendered (Some (Gens n)) is = is
   rendered None is = is
 
   -- ---- the line
@@ -92,17 +98,21 @@ module _ {M I C W O : Type 0} (media : MediaOutside M) (inputs : SourceOutside I
       by (Some (Migrates name)) is said = said
       by (Some (Checks name)) is said = said
       by (Some (Renders x)) is said = said
+      by (Some (Verifies v)) is said = said
+      by (Some (Gens n)) is said = said
       by None is said = said
 
     complete : IsComplete media inputs controls master out old asked new
-    complete = by asked other d.ends where
-      by : (q : Option Task) → IsOther q → EndsAsAsked media inputs old q ended.status → IsComplete media inputs controls master out old q new
-      by (Some (Runs x)) is ends = absurd is
-      by (Some (Migrates name)) is ends = λ t ok still fine. status.completes OutFault (read_session (media.files old.media name)) ended.status reads_before reads_now (out.faults old.out) (out.faults o) (ends t) ok still fine d.reads failed.cause
-      by (Some (Checks name)) is ends = λ t ok still fine. status.completes OutFault (session_plan (media.files old.media) name) ended.status reads_before reads_now (out.faults old.out) (out.faults o) (ends t) ok still fine d.reads failed.cause
-      by (Some (Renders x)) is ends = λ t ok still fine. status.completes MasterFault (session_plan (media.files old.media) x.session) ended.status reads_before reads_now (master.faults old.master) (master.faults ended.world.master)
+    complete = by asked other d.ends d.status where
+      by : (q : Option Task) → IsOther q → EndsAsAsked media inputs old q ended.status → IsStatusOf q ended.status → IsComplete media inputs controls master out old q new
+      by (Some (Runs x)) is ends of = absurd is
+      by (Some (Migrates name)) is ends of = λ t ok still fine. status.completes OutFault (read_session (media.files old.media name)) ended.status reads_before reads_now (out.faults old.out) (out.faults o) (ends t) ok still fine d.reads failed.cause
+      by (Some (Checks name)) is ends of = λ t ok still fine. status.completes OutFault (session_plan (media.files old.media) name) ended.status reads_before reads_now (out.faults old.out) (out.faults o) (ends t) ok still fine d.reads failed.cause
+      by (Some (Renders x)) is ends of = λ t ok still fine. status.completes MasterFault (session_plan (media.files old.media) x.session) ended.status reads_before reads_now (master.faults old.master) (master.faults ended.world.master)
           (ends t) ok still fine d.reads d.writes.cause
-      by None is ends = tt
+      by (Some (Verifies v)) is ends of = λ t agree still fine. status.said_completes ended.status reads_before reads_now (out.faults old.out) (out.faults o) ((ends t).agreed agree) still fine d.reads failed.cause
+      by (Some (Gens n)) is ends of = λ fine. status.gen_completes ended.status (out.faults old.out) (out.faults o) of fine failed.cause
+      by None is ends of = tt
 
     causes : HasCauses media inputs controls master out old asked new
     causes = by asked other (record { reads = d.reads; writes = d.writes; replies = failed }) where
@@ -111,6 +121,8 @@ module _ {M I C W O : Type 0} (media : MediaOutside M) (inputs : SourceOutside I
       by (Some (Migrates name)) is have = have
       by (Some (Checks name)) is have = have
       by (Some (Renders x)) is have = have
+      by (Some (Verifies v)) is have = have
+      by (Some (Gens n)) is have = have
       by None is have = have
 
     rest : LeavesTheRest media old asked ended.status new.world
@@ -120,6 +132,8 @@ module _ {M I C W O : Type 0} (media : MediaOutside M) (inputs : SourceOutside I
       by (Some (Migrates name)) is alone = alone
       by (Some (Checks name)) is alone = alone
       by (Some (Renders x)) is alone = alone
+      by (Some (Verifies v)) is alone = alone
+      by (Some (Gens n)) is alone = alone
       by None is alone = alone
 
     does : Does media inputs controls master out old asked new

@@ -12,10 +12,12 @@ use Rattle.session_opening.specs.Plan.{Open}
 use Rattle.session_opening.specs.declared.unopened.Unopened.{Unopened}
 use Rattle.session_opening.specs.declared.unopened.Unopened.TheVariants.{Session, Source, ReadFault}
 use Rattle.session_opening.specs.declared.unopened.Unopened.TheVariants as unopened
-use Rattle.session_play.specs.Ending.{status_of}
+use Rattle.session_play.specs.Ending.{IsUnread, status_of}
 use Rattle.session_play.specs.Reported.{IsStill}
-use Rattle.session_run.specs.Status.{EndsWith, IsOfCheck, IsOfMigrate, IsOfRender, IsOfRun, IsStatusOf, ReadsFailed}
-use Rattle.session_run.specs.Tasks.{Task, Runs, Migrates, Checks, Renders}
+use Rattle.session_verify.specs.Verified.{IsOfVerify as IsVerdictStatus}
+use Rattle.session_run.specs.Status.{EndsWith, IsOfCheck, IsOfGen, IsOfMigrate, IsOfRender, IsOfRun, IsOfVerify, IsStatusOf, ReadsFailed}
+use Rattle.session_run.specs.Verified.{IsSaid}
+use Rattle.session_run.specs.Tasks.{Task, Runs, Migrates, Checks, Renders, Verifies, Gens}
 
 -- ---- one that stops at what is wrong
 
@@ -57,6 +59,22 @@ reason_of unopened.NoMemory = refl
 pub not_of : (why : Unopened) (s : Status) → is_reason s ≡ false → status_of why ≡ s → ⊥
 not_of why s other is = true≢false (sym (reason_of why) ∙ ap is_reason is ∙ other)
 
+-- whether a verify may end so, that its line isn't written aside
+abbrev is_verdict : Status → Bool
+is_verdict (status.BadReport n) = true
+is_verdict (status.Refuted n) = true
+is_verdict (status.Session refusal) = true
+is_verdict (status.SourceFile name why) = true
+is_verdict status.ReadFault = true
+is_verdict NoMemory = true
+is_verdict _ = false
+
+reason_is_verdict : (why : Unopened) → is_verdict (status_of why) ≡ true
+reason_is_verdict (Session refusal) = refl
+reason_is_verdict (Source name why) = refl
+reason_is_verdict ReadFault = refl
+reason_is_verdict unopened.NoMemory = refl
+
 -- a run doesn't end as no command does
 pub run_not_usage : (s : Status) → IsOfRun s → s ≡ Usage → ⊥
 run_not_usage s of is = subst IsOfRun is of
@@ -94,12 +112,46 @@ render_not_usage s (inl done) is = cc
 render_not_usage s (inr (inl fault)) is = cc
 render_not_usage s (inr (inr (why, by))) is = not_of why Usage refl (sym by ∙ is)
 
+-- a verify writes no master
+pub verify_not : (s t : Status) → is_verdict s ≡ false → IsVerdictStatus t → t ≡ s → ⊥
+verify_not s t other (inl (n, is)) same = true≢false (ap is_verdict (sym is ∙ same) ∙ other)
+verify_not s t other (inr (inl (n, is))) same = true≢false (ap is_verdict (sym is ∙ same) ∙ other)
+verify_not s t other (inr (inr (why, by))) same = true≢false (sym (reason_is_verdict why) ∙ ap is_verdict (sym by ∙ same) ∙ other)
+
+pub verify_not_master : (s : Status) → IsOfVerify s → s ≡ MasterFault → ⊥
+verify_not_master s (inl done) is = cc
+verify_not_master s (inr (inl fault)) is = cc
+verify_not_master s (inr (inr by)) is = verify_not MasterFault s refl by is
+
+pub verify_not_usage : (s : Status) → IsOfVerify s → s ≡ Usage → ⊥
+verify_not_usage s (inl done) is = cc
+verify_not_usage s (inr (inl fault)) is = cc
+verify_not_usage s (inr (inr by)) is = verify_not Usage s refl by is
+
+-- nor does a gen
+pub gen_not_master : (s : Status) → IsOfGen s → s ≡ MasterFault → ⊥
+gen_not_master s (inl done) is = cc
+gen_not_master s (inr (inl fault)) is = cc
+gen_not_master s (inr (inr none)) is = cc
+
+pub gen_not_read : (s : Status) → IsOfGen s → s ≡ status.ReadFault → ⊥
+gen_not_read s (inl done) is = cc
+gen_not_read s (inr (inl fault)) is = cc
+gen_not_read s (inr (inr none)) is = cc
+
+pub gen_not_usage : (s : Status) → IsOfGen s → s ≡ Usage → ⊥
+gen_not_usage s (inl done) is = cc
+gen_not_usage s (inr (inl fault)) is = cc
+gen_not_usage s (inr (inr none)) is = cc
+
 -- only no command ends so
 pub usage_only : (asked : Option Task) (s : Status) → IsStatusOf asked s → (s ≡ Usage) ↔ (asked ≡ None)
 usage_only (Some (Runs r)) s is = (λ usage. absurd (run_not_usage s is usage), λ none. absurd cc)
 usage_only (Some (Migrates name)) s is = (λ usage. absurd (migrate_not_usage s is usage), λ none. absurd cc)
 usage_only (Some (Checks name)) s is = (λ usage. absurd (check_not_usage s is usage), λ none. absurd cc)
 usage_only (Some (Renders r)) s is = (λ usage. absurd (render_not_usage s is usage), λ none. absurd cc)
+usage_only (Some (Verifies v)) s is = (λ usage. absurd (verify_not_usage s is usage), λ none. absurd cc)
+usage_only (Some (Gens n)) s is = (λ usage. absurd (gen_not_usage s is usage), λ none. absurd cc)
 usage_only None s is = (λ usage. refl, λ none. is)
 
 -- ---- completeness
@@ -111,3 +163,15 @@ completes fault (Ok o) s a b c d (inr (inl failed)) ok reads writes rf wf = absu
 completes fault (Ok o) s a b c d (inr (inr (inl failed))) ok reads writes rf wf = absurd (omega (arith, rf.cause failed, reads.same, reads.short))
 completes fault (Ok o) s a b c d (inr (inr (inr none))) ok reads writes rf wf = inr none
 completes fault (Err w) s a b c d ends ok reads writes rf wf = absurd (true≢false (sym ok))
+
+-- what agrees is said, where no count rises
+pub said_completes : (s : Status) (a b c d : ℕ) → IsSaid s ⊎ IsUnread s → IsStill a b → IsStill c d → ReadsFailed a b s → (s ≡ OutFault → risen c ≤ d) → (s ≡ Done) ⊎ (s ≡ NoMemory)
+said_completes s a b c d (inl (inl done)) reads writes rf wf = inl done
+said_completes s a b c d (inl (inr failed)) reads writes rf wf = absurd (omega (arith, wf failed, writes.same, writes.short))
+said_completes s a b c d (inr (inl failed)) reads writes rf wf = absurd (omega (arith, rf.cause failed, reads.same, reads.short))
+said_completes s a b c d (inr (inr none)) reads writes rf wf = inr none
+
+pub gen_completes : (s : Status) (c d : ℕ) → IsOfGen s → IsStill c d → (s ≡ OutFault → risen c ≤ d) → (s ≡ Done) ⊎ (s ≡ NoMemory)
+gen_completes s c d (inl done) writes wf = inl done
+gen_completes s c d (inr (inl failed)) writes wf = absurd (omega (arith, wf failed, writes.same, writes.short))
+gen_completes s c d (inr (inr none)) writes wf = inr none

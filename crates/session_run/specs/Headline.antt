@@ -11,10 +11,12 @@ use Rattle.session_play.specs.Complete as run_complete
 use Rattle.session_play.specs.Opening.{IsTold}
 use Rattle.session_play.specs.Played.{WasPlayed}
 use Rattle.session_play.specs.Reported.{IsStill}
+use Rattle.session_verify.specs.Laws.{Agrees}
 use Rattle.session_run.specs.Rendered.{GetsTheRender}
 use Rattle.session_run.specs.Replied.{IsOwnText, Replies}
+use Rattle.session_run.specs.Verified.{EndsAsVerified}
 use Rattle.session_run.specs.Status.{EndsWith, HasNotPlayed, HasRendered, IsStatusOf, ReadsFailed, WritesFailed, RepliesFailed}
-use Rattle.session_run.specs.Tasks.{Task, Runs, Migrates, Checks, Renders}
+use Rattle.session_run.specs.Tasks.{Task, Runs, Migrates, Checks, Renders, Verifies, Gens}
 
 -- what was asked for leaves the master alone
 abbrev pub LeavesTheMaster : Option Task → Type 0
@@ -22,6 +24,8 @@ LeavesTheMaster (Some (Runs r)) = ⊥
 LeavesTheMaster (Some (Migrates name)) = Unit {0}
 LeavesTheMaster (Some (Checks name)) = Unit {0}
 LeavesTheMaster (Some (Renders r)) = ⊥
+LeavesTheMaster (Some (Verifies v)) = Unit {0}
+LeavesTheMaster (Some (Gens n)) = Unit {0}
 LeavesTheMaster None = Unit {0}
 
 module _ {M I C W O : Type 0} where
@@ -33,6 +37,8 @@ module _ {M I C W O : Type 0} where
   EndsAsAsked media inputs old (Some (Migrates name)) s = media.tells → EndsWith OutFault (read_session (media.files old.media name)) s
   EndsAsAsked media inputs old (Some (Checks name)) s = media.tells → EndsWith OutFault (session_plan (media.files old.media) name) s
   EndsAsAsked media inputs old (Some (Renders r)) s = media.tells → EndsWith MasterFault (session_plan (media.files old.media) r.session) s
+  EndsAsAsked media inputs old (Some (Verifies v)) s = media.tells → EndsAsVerified (media.files old.media) v s
+  EndsAsAsked media inputs old (Some (Gens n)) s = Unit {0}
   EndsAsAsked media inputs old None s = s ≡ Usage
 
   -- ---- what is played, and what else is written
@@ -43,6 +49,8 @@ module _ {M I C W O : Type 0} where
   PlaysAsAsked media inputs controls masters outs old (Some (Migrates name)) new = HasNotPlayed new
   PlaysAsAsked media inputs controls masters outs old (Some (Checks name)) new = HasNotPlayed new
   PlaysAsAsked media inputs controls masters outs old (Some (Renders r)) new = HasRendered old new
+  PlaysAsAsked media inputs controls masters outs old (Some (Verifies v)) new = HasNotPlayed new
+  PlaysAsAsked media inputs controls masters outs old (Some (Gens n)) new = HasNotPlayed new
   PlaysAsAsked media inputs controls masters outs old None new = HasNotPlayed new
 
   -- what the master gets of a render; that of a run is said with what is played, and no other command writes to it
@@ -51,6 +59,8 @@ module _ {M I C W O : Type 0} where
   RendersAsAsked media masters old (Some (Migrates name)) new = Unit {0}
   RendersAsAsked media masters old (Some (Checks name)) new = Unit {0}
   RendersAsAsked media masters old (Some (Renders r)) new = GetsTheRender media old.media masters r old.master new.world.master new.status
+  RendersAsAsked media masters old (Some (Verifies v)) new = Unit {0}
+  RendersAsAsked media masters old (Some (Gens n)) new = Unit {0}
   RendersAsAsked media masters old None new = Unit {0}
 
   -- out gets the text of the command, or the line that says how it failed; what it gets of a run is said with what is played
@@ -59,6 +69,8 @@ module _ {M I C W O : Type 0} where
   RepliesAsAsked media outs old (Some (Migrates name)) new = Replies outs (IsOwnText media old.media (Some (Migrates name))) old.out new.world.out new.status
   RepliesAsAsked media outs old (Some (Checks name)) new = Replies outs (IsOwnText media old.media (Some (Checks name))) old.out new.world.out new.status
   RepliesAsAsked media outs old (Some (Renders r)) new = Replies outs (IsOwnText media old.media (Some (Renders r))) old.out new.world.out new.status
+  RepliesAsAsked media outs old (Some (Verifies v)) new = Replies outs (IsOwnText media old.media (Some (Verifies v))) old.out new.world.out new.status
+  RepliesAsAsked media outs old (Some (Gens n)) new = Replies outs (IsOwnText media old.media (Some (Gens n))) old.out new.world.out new.status
   RepliesAsAsked media outs old None new = Replies outs (IsOwnText media old.media None) old.out new.world.out new.status
 
   -- ---- faults and their causes
@@ -77,6 +89,8 @@ module _ {M I C W O : Type 0} where
   HasCauses media inputs controls masters outs old (Some (Migrates name)) new = FaultsHaveCauses media masters outs old new
   HasCauses media inputs controls masters outs old (Some (Checks name)) new = FaultsHaveCauses media masters outs old new
   HasCauses media inputs controls masters outs old (Some (Renders r)) new = FaultsHaveCauses media masters outs old new
+  HasCauses media inputs controls masters outs old (Some (Verifies v)) new = FaultsHaveCauses media masters outs old new
+  HasCauses media inputs controls masters outs old (Some (Gens n)) new = FaultsHaveCauses media masters outs old new
   HasCauses media inputs controls masters outs old None new = FaultsHaveCauses media masters outs old new
 
   -- ---- completeness
@@ -94,6 +108,9 @@ module _ {M I C W O : Type 0} where
       IsStill (media.read_faults old.media) (media.read_faults new.world.media) → IsStill (outs.faults old.out) (outs.faults new.world.out) → IsDoneButForMemory new
   IsComplete media inputs controls masters outs old (Some (Renders r)) new = media.tells → IsOk (session_plan (media.files old.media) r.session) →
       IsStill (media.read_faults old.media) (media.read_faults new.world.media) → IsStill (masters.faults old.master) (masters.faults new.world.master) → IsDoneButForMemory new
+  IsComplete media inputs controls masters outs old (Some (Verifies v)) new = media.tells → Agrees (media.files old.media) v →
+      IsStill (media.read_faults old.media) (media.read_faults new.world.media) → IsStill (outs.faults old.out) (outs.faults new.world.out) → IsDoneButForMemory new
+  IsComplete media inputs controls masters outs old (Some (Gens n)) new = IsStill (outs.faults old.out) (outs.faults new.world.out) → IsDoneButForMemory new
   IsComplete media inputs controls masters outs old None new = Unit {0}
 
   -- ---- what is left alone
@@ -115,6 +132,8 @@ module _ {M I C W O : Type 0} where
   LeavesTheRest media old (Some (Migrates name)) s new = LeavesAlone media old (Some (Migrates name)) s new
   LeavesTheRest media old (Some (Checks name)) s new = LeavesAlone media old (Some (Checks name)) s new
   LeavesTheRest media old (Some (Renders r)) s new = LeavesAlone media old (Some (Renders r)) s new
+  LeavesTheRest media old (Some (Verifies v)) s new = LeavesAlone media old (Some (Verifies v)) s new
+  LeavesTheRest media old (Some (Gens n)) s new = LeavesAlone media old (Some (Gens n)) s new
   LeavesTheRest media old None s new = LeavesAlone media old None s new
 
   -- What every run does that was asked for this.

@@ -6,10 +6,12 @@ use Rattle.cycle_journal.specs.declared.status.Status.{Status}
 use Rattle.cycle_journal.specs.declared.status.Status.TheVariants.{Done, OutFault}
 use Rattle.fault_lines.specs.Fault.{fault_line, fault_words}
 use Rattle.session_play.specs.declared.outcome.Outcome.{Outcome}
+use Rattle.session_gen.specs.Gen.{gen_text}
 use Rattle.session_play.specs.Unplayed.{Gets, GetsAFront}
 use Rattle.session_run.specs.Checked.{IsCheckText}
 use Rattle.session_run.specs.Migrated.{IsMigratedText}
-use Rattle.session_run.specs.Tasks.{Task, Runs, Migrates, Checks, Renders}
+use Rattle.session_run.specs.Verified.{IsVerifiedText}
+use Rattle.session_run.specs.Tasks.{Task, Runs, Migrates, Checks, Renders, Verifies, Gens}
 
 -- **a command's own text**, by the files: nothing of a render. What a run writes is said with the run; what is no command has none
 abbrev pub IsOwnText : {M : Type 0} → MediaOutside M → M → Option Task → List ℕ → Type 0
@@ -17,6 +19,8 @@ IsOwnText media before (Some (Runs r)) text = ⊥
 IsOwnText media before (Some (Migrates name)) text = IsMigratedText media before name text
 IsOwnText media before (Some (Checks name)) text = IsCheckText media before name text
 IsOwnText media before (Some (Renders r)) text = text ≡ []
+IsOwnText media before (Some (Verifies v)) text = IsVerifiedText media before v text
+IsOwnText media before (Some (Gens n)) text = text ≡ gen_text n
 IsOwnText media before None text = ⊥
 
 module _ {O : Type 0} (out : SinkOutside O) where

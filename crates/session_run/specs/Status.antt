@@ -12,7 +12,8 @@ use Rattle.session_opening.specs.Answers as answers
 use Rattle.session_opening.specs.Plan.{Open}
 use Rattle.session_play.specs.declared.outcome.Outcome.{Outcome}
 use Rattle.session_play.specs.Ending.{Says, status_of}
-use Rattle.session_run.specs.Tasks.{Task, Runs, Migrates, Checks, Renders}
+use Rattle.session_verify.specs.Verified as verdict
+use Rattle.session_run.specs.Tasks.{Task, Runs, Migrates, Checks, Renders, Verifies, Gens}
 
 -- ---- by the words and the files
 
@@ -50,12 +51,22 @@ status_after (Err fault.NoMemory) = NoMemory
 abbrev pub IsOfRender : Status → Type 0
 IsOfRender s = (s ≡ Done) ⊎ ((s ≡ MasterFault) ⊎ ((why : Unopened) × (s ≡ status_of why)))
 
+-- the same of a verify: it opens its sources, and reads report and master
+abbrev pub IsOfVerify : Status → Type 0
+IsOfVerify s = (s ≡ Done) ⊎ ((s ≡ OutFault) ⊎ verdict.IsOfVerify s)
+
+-- the same of a gen, which reads nothing
+abbrev pub IsOfGen : Status → Type 0
+IsOfGen s = (s ≡ Done) ⊎ ((s ≡ OutFault) ⊎ (s ≡ NoMemory))
+
 -- the same of what was asked for, which may be no command
 abbrev pub IsStatusOf : Option Task → Status → Type 0
 IsStatusOf (Some (Runs r)) s = IsOfRun s
 IsStatusOf (Some (Migrates name)) s = IsOfMigrate s
 IsStatusOf (Some (Checks name)) s = IsOfCheck s
 IsStatusOf (Some (Renders r)) s = IsOfRender s
+IsStatusOf (Some (Verifies v)) s = IsOfVerify s
+IsStatusOf (Some (Gens n)) s = IsOfGen s
 IsStatusOf None s = s ≡ Usage
 
 -- the media's count of failed reads, before and now

@@ -1,10 +1,10 @@
--- What the words of a command line ask to be done. What isn't built yet is no command: a play on threads, a verify and a gen.
-use Rattle.std.specs.Prelude.{ℕ, ◌*◌, List, [], Option, Some, None}
+-- What the words of a command line ask to be done. What isn't built yet is no command: a play on threads.
+use Rattle.std.specs.Prelude.{ℕ, ◌*◌, ◌≤◌, List, [], Option, Some, None}
 use Rattle.std.specs.Borrow.{Bor}
 use Rattle.std.specs.Option.{option_map, option_and_then}
 use Rattle.machine_model.specs.Letters.{Letter}
-use Rattle.command_words.specs.Spoken.{texts, render_view, IsRenderInRange}
-use Rattle.command_words.specs.Words.{Command, Export, Mode, Play, Render, Serial, Steps, Seed, Threads, ToCheck, ToRender, ToExport, ToMigrate, ToPlay, ToVerify, ToGen, command}
+use Rattle.command_words.specs.Spoken.{texts, render_view, verify_view, IsRenderInRange}
+use Rattle.command_words.specs.Words.{Command, Export, Mode, Play, Render, Verify, Serial, Steps, Seed, Threads, ToCheck, ToRender, ToExport, ToMigrate, ToPlay, ToVerify, ToGen, command}
 use Rattle.run_letters.specs.Letters.{letters_in, seed_letters}
 use Rattle.session_play.specs.Request.{Request, IsAsked, request_view}
 use Rattle.session_run.specs.declared.task.Task as code
@@ -17,6 +17,9 @@ pub data Task : Type 0 where
   Migrates : List ℕ → Task
   Checks : List ℕ → Task
   Renders : Render → Task
+  Verifies : Verify → Task
+  -- by the number of the session that is made
+  Gens : ℕ → Task
 
 -- ---- by commands
 
@@ -41,8 +44,8 @@ task_of (ToPlay p) = option_map (λ letters. Runs (play_request p letters)) (let
 task_of (ToMigrate session) = Some (Migrates session)
 task_of (ToCheck session) = Some (Checks session)
 task_of (ToRender r) = Some (Renders r)
-task_of (ToVerify v) = None
-task_of (ToGen n) = None
+task_of (ToVerify v) = Some (Verifies v)
+task_of (ToGen n) = Some (Gens n)
 
 -- **what the words ask for**
 abbrev pub asked_by : List (Bor (List ℕ)) → Option Task
@@ -55,6 +58,8 @@ task_view (of_code.Run q) = Runs (request_view q)
 task_view (of_code.Migrate session) = Migrates session.now
 task_view (of_code.Check session) = Checks session.now
 task_view (of_code.Render r) = Renders (render_view r)
+task_view (of_code.Verify v) = Verifies (verify_view v)
+task_view (of_code.Gen number) = Gens number
 
 -- its numbers lie in their ranges
 abbrev pub IsTaskInRange : code.Task → Type 0
@@ -62,3 +67,5 @@ IsTaskInRange (of_code.Run q) = IsAsked q
 IsTaskInRange (of_code.Migrate session) = Unit {0}
 IsTaskInRange (of_code.Check session) = Unit {0}
 IsTaskInRange (of_code.Render r) = IsRenderInRange r
+IsTaskInRange (of_code.Verify v) = Unit {0}
+IsTaskInRange (of_code.Gen number) = number ≤ 8191

@@ -6,9 +6,11 @@ ghost use Rattle.session_run.specs.Replied.{WritesItsLine};
 ghost use Rattle.session_run.specs.Tasks.{IsTaskInRange, task_view};
 
 use crate::check::check;
+use crate::generate::generate;
 use crate::migrate::migrate;
 use crate::render::render;
 use crate::task::Task;
+use crate::verify::verify;
 use cycle_journal::Status;
 use fault_lines::write_fault;
 use ses_io::{Media, Sink, Source, World};
@@ -40,6 +42,8 @@ fn done<M: Media, I: Source, C: Source, W: Sink, O: Sink>(
         Task::Migrate { session } => with_line(migrate(alloc, session, world)),
         Task::Check { session } => with_line(check(alloc, session, world)),
         Task::Render(asked) => with_line(render(alloc, &asked, world)),
+        Task::Verify(asked) => with_line(verify(alloc, &asked, world)),
+        Task::Gen { number } => with_line(generate(alloc, number, world)),
     }
 }
 

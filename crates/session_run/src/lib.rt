@@ -3,10 +3,12 @@
 
 mod answer;
 mod check;
+mod generate;
 mod migrate;
 mod render;
 mod task;
 mod top;
+mod verify;
 mod writing;
 
 pub use audio_source::FileRefusal;

@@ -1,4 +1,4 @@
-//! What a command is carried out as. What isn't built yet is no command: a play with threads, a verify and a gen.
+//! What a command is carried out as. What isn't built yet is no command: a play with threads.
 ghost use Rattle.std.specs.Prelude.{◌≡◌, ℕ, IfSome};
 ghost use Rattle.std.specs.Option.{option_map};
 ghost use Rattle.command_words.specs.Spoken.{KeepsRanges, command_view, export_view, mode_view, play_view, IsInRange, IsPlayInRange};
@@ -6,7 +6,7 @@ ghost use Rattle.session_play.specs.Request.{IsAsked, letters_of, request_view};
 ghost use Rattle.session_run.specs.Tasks as spec;
 ghost use Rattle.session_run.specs.Tasks.{IsTaskInRange, task_view};
 
-use command_words::{Command, Export, Mode, Play, Render, command};
+use command_words::{Command, Export, Mode, Play, Render, Verify, command};
 use run_world::Script;
 use session_play::{Letters, Request};
 
@@ -18,6 +18,8 @@ pub(crate) enum Task<'a> {
     Migrate { session: &'a str },
     Check { session: &'a str },
     Render(Render<'a>),
+    Verify(Verify<'a>),
+    Gen { number: u32 },
 }
 
 // An export is a run by its own two lines.
@@ -76,7 +78,8 @@ fn task_of(asked: Command<'_>) -> Option<Task<'_>>
         Command::Migrate { session } => Some(Task::Migrate { session }),
         Command::Check { session } => Some(Task::Check { session }),
         Command::Render(asked) => Some(Task::Render(asked)),
-        Command::Verify(_) | Command::Gen { .. } => None,
+        Command::Verify(asked) => Some(Task::Verify(asked)),
+        Command::Gen { number } => Some(Task::Gen { number }),
     }
 }
 

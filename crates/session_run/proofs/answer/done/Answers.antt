@@ -1,9 +1,9 @@
 -- A run does what it is said to; another command was carried out, and then its line was written.
 use Rattle.std.proofs.Common.{sym, ap}
 use Rattle.std.specs.Prelude.{Some}
-use Rattle.command_words.specs.Spoken.{render_view}
+use Rattle.command_words.specs.Spoken.{render_view, verify_view}
 use Rattle.session_play.specs.Request.{request_view}
-use Rattle.session_run.specs.Tasks.{Runs, Migrates, Checks, Renders, task_view}
+use Rattle.session_run.specs.Tasks.{Runs, Migrates, Checks, Renders, Verifies, Gens, task_view}
 use Rattle.session_run.proofs.ReplyLemmas.{answered}
 use Rattle.session_run.proofs.RunLemmas.{does_run}
 use Rattle.session_run.proofs.TopLemmas.{as_asked}
@@ -24,3 +24,11 @@ returns-in-Render g c = as_asked g.M.Media.outside g.I.Source.outside g.C.Source
 pub returns-in-Run : goal.returns-in-Run
 returns-in-Run g c = as_asked g.M.Media.outside g.I.Source.outside g.C.Source.outside g.W.Sink.outside g.O.Sink.outside c.args.world c.play.result (Some (Runs (request_view c.in-Run.asked))) (Some (task_view c.args.task)) (sym (ap (λ t. Some (task_view t)) c.in-Run.is))
     (does_run g.M.Media.outside g.I.Source.outside g.C.Source.outside g.W.Sink.outside g.O.Sink.outside c.args.world (request_view c.in-Run.asked) c.play.result c.play.ensures.told c.play.ensures.played c.play.ensures.causes c.play.ensures.complete)
+
+pub returns-in-Verify : goal.returns-in-Verify
+returns-in-Verify g c = as_asked g.M.Media.outside g.I.Source.outside g.C.Source.outside g.W.Sink.outside g.O.Sink.outside c.args.world c.with_line-in-Verify.result (Some (Verifies (verify_view c.in-Verify.asked))) (Some (task_view c.args.task)) (sym (ap (λ t. Some (task_view t)) c.in-Verify.is))
+    (answered g.M.Media.outside g.I.Source.outside g.C.Source.outside g.W.Sink.outside g.O.Sink.outside c.args.world c.verify.result c.with_line-in-Verify.result (Some (Verifies (verify_view c.in-Verify.asked))) tt c.verify.ensures c.with_line-in-Verify.ensures)
+
+pub returns-in-Gen : goal.returns-in-Gen
+returns-in-Gen g c = as_asked g.M.Media.outside g.I.Source.outside g.C.Source.outside g.W.Sink.outside g.O.Sink.outside c.args.world c.with_line-in-Gen.result (Some (Gens c.in-Gen.number)) (Some (task_view c.args.task)) (sym (ap (λ t. Some (task_view t)) c.in-Gen.is))
+    (answered g.M.Media.outside g.I.Source.outside g.C.Source.outside g.W.Sink.outside g.O.Sink.outside c.args.world c.generate.result c.with_line-in-Gen.result (Some (Gens c.in-Gen.number)) tt c.generate.ensures c.with_line-in-Gen.ensures)

@@ -1,0 +1,6 @@
+-- What the contracts cite.
+pub mod Sums
+pub mod Line
+pub mod Gen
+pub mod Files
+pub mod Laws

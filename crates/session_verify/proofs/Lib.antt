@@ -1,0 +1,2 @@
+-- Which answers there are.
+pub mod AnswerLemmas

@@ -1,0 +1,3 @@
+-- What verify answers.
+pub mod Verified
+pub mod Laws

@@ -1,0 +1,103 @@
+//! Masters that differ from the offline rendering.
+use crate::finished::{AT_ONCE, Check, Damage, ODD, ONE_OF_TWO, QUIT, SOFTER};
+
+pub(crate) const MASTERS: &[Check] = &[
+    Check {
+        name: "a byte of the first block",
+        run: QUIT,
+        damage: Damage::Byte(44, 101),
+        status: 10,
+        out: "error refuted 11\n",
+    },
+    Check {
+        name: "the last byte of the first block",
+        run: QUIT,
+        damage: Damage::Byte(51, 2),
+        status: 10,
+        out: "error refuted 11\n",
+    },
+    Check {
+        name: "the first byte of the last block",
+        run: QUIT,
+        damage: Damage::Byte(52, 245),
+        status: 10,
+        out: "error refuted 12\n",
+    },
+    Check {
+        name: "the last byte of the last block",
+        run: QUIT,
+        damage: Damage::Byte(59, 4),
+        status: 10,
+        out: "error refuted 12\n",
+    },
+    Check {
+        name: "a middle block",
+        run: ODD,
+        damage: Damage::Byte(48, 201),
+        status: 10,
+        out: "error refuted 6\n",
+    },
+    Check {
+        name: "a block by the other playlist",
+        run: SOFTER,
+        damage: Damage::Byte(52, 244),
+        status: 10,
+        out: "error refuted 6\n",
+    },
+    Check {
+        name: "a frame behind the last entry",
+        run: ONE_OF_TWO,
+        damage: Damage::Byte(52, 1),
+        status: 10,
+        out: "error refuted 9\n",
+    },
+    Check {
+        name: "the last frame of silence",
+        run: AT_ONCE,
+        damage: Damage::Byte(59, 128),
+        status: 10,
+        out: "error refuted 5\n",
+    },
+    Check {
+        name: "the rate of the header",
+        run: QUIT,
+        damage: Damage::Byte(24, 0x81),
+        status: 10,
+        out: "error refuted 7\n",
+    },
+    Check {
+        name: "the length in the header",
+        run: QUIT,
+        damage: Damage::Byte(40, 15),
+        status: 10,
+        out: "error refuted 7\n",
+    },
+    Check {
+        name: "another pad byte",
+        run: ODD,
+        damage: Damage::Byte(53, 1),
+        status: 10,
+        out: "error refuted 2\n",
+    },
+    Check {
+        name: "no pad byte",
+        run: ODD,
+        damage: Damage::Cut(53),
+        status: 10,
+        out: "error refuted 2\n",
+    },
+    Check {
+        name: "a byte too few",
+        run: QUIT,
+        damage: Damage::Cut(59),
+        status: 10,
+        out: "error refuted 7\n",
+    },
+    Check {
+        name: "a byte too many",
+        run: QUIT,
+        damage: Damage::More(&[0]),
+        status: 10,
+        out: "error refuted 7\n",
+    },
+];
