@@ -44,14 +44,28 @@ def beside(name, frames, sox, programs):
         print("%-6s %-22s %7.3f s  %6.1f MB  here is %5.2f times that" % (name, way, time, room, here / time), flush=True)
 
 
+def a_cycle(words, cycles):
+    """Microseconds of processor time a cycle of the session that stands there, by these words, without the opening."""
+    whole, begun = (least([timed(words + [str(n)]) for _ in range(RUNS)])[0] for n in (cycles, 1))
+    return (whole - begun) * 1e6 / (cycles - 1)
+
+
 def cost(program, plain):
-    """Microseconds of processor time a cycle of the session that stands there, here and by plain loops, without the opening."""
+    """That of a minute here, and by plain loops."""
     cycles = workloads.cycles_of(workloads.MINUTE)
-    found = []
-    for words in ([program, "export", "s.toml", "0"], [plain]):
-        whole, begun = (least([timed(words + [str(n)]) for _ in range(RUNS)])[0] for n in (cycles, 1))
-        found.append((whole - begun) * 1e6 / (cycles - 1))
-    return "here %8.2f, gcc -O2 %8.2f microseconds a cycle" % tuple(found)
+    found = tuple(a_cycle(words, cycles) for words in ([program, "export", "s.toml", "0"], [plain]))
+    return "here %8.2f, gcc -O2 %8.2f microseconds a cycle" % found
+
+
+def nothing(program):
+    """That of tracks on which nothing lies, and how often it is that of one."""
+    for block in (64, 256, 1024, 4096):
+        one = None
+        for tracks in (1, 2, 4, 8, 16, 32):
+            workloads.nothing(tracks, block)
+            found = a_cycle([program, "export", "s.toml", "0"], 20000)
+            one = one or found
+            print("blocks of %4d, %2d tracks of nothing: %8.2f microseconds a cycle, %5.2f times one track" % (block, tracks, found, found / one), flush=True)
 
 
 def main():
@@ -69,6 +83,8 @@ def main():
         for regions in (1, 4, 16, 64):
             workloads.grid(8, regions, stacked=True)
             print("8 tracks, %3d transparent regions over one another: %s" % (regions, cost(*programs[:2])), flush=True)
+    if not which or "nothing" in which:
+        nothing(programs[0])
 
 
 main()

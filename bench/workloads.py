@@ -1,6 +1,6 @@
 """The sessions that exports are timed with, as s.toml with its sources in the current folder: mixed stems, many tracks, one long track, and
-sessions of so many tracks and regions. One key stands in a line, since export.c reads them so. All are at 48,000 frames a second, by blocks of
-1,024 frames, 16 ahead."""
+sessions of so many tracks and regions, or of nothing. One key stands in a line, since export.c reads them so. All are at 48,000 frames a second, 16
+blocks ahead, and by blocks of 1,024 frames where nothing else is said."""
 import random
 import struct
 
@@ -15,10 +15,10 @@ def cycles_of(frames):
 class Session:
     """A session's text, part by part."""
 
-    def __init__(self, bits, channels):
+    def __init__(self, bits, channels, block=BLOCK):
         random.seed(1)
         self.lines = []
-        self.part("[session]", version=2, rate=48000, bits=bits, channels=channels, block=BLOCK, depth=16)
+        self.part("[session]", version=2, rate=48000, bits=bits, channels=channels, block=block, depth=16)
 
     def part(self, head, **keys):
         self.lines.append(head)
@@ -110,6 +110,15 @@ def grid(tracks, regions, stacked=False):
     s.part("[master]")
     s.write()
     return MINUTE, None
+
+
+def nothing(tracks, block):
+    """So many mono tracks on which nothing lies, by blocks of so many frames, into a stereo master of 24 bits."""
+    s = Session(24, 2, block)
+    for t in range(tracks):
+        s.part("[[track]]", name="t%d" % t, channels=1)
+    s.part("[master]")
+    s.write()
 
 
 WORKLOADS = {"stems": stems, "many": many, "long": long}

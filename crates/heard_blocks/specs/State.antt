@@ -7,11 +7,6 @@ use Rattle.engine_model.specs.Journal.{Play, Heard, Silent, Short, State, Stoppe
 use Rattle.master_blocks.specs.State.{MasterState, IsMasterOf}
 use Rattle.heard_blocks.specs.Lists.{ListsState, HasLists}
 
--- what clauses speak of and no code holds: the session as it was opened, and the entries so far, the newest first
-pub record Judged : Type 0 where
-  pub session : Session
-  pub entries : List Entry
-
 -- an entry behind the entries so far
 pub record NextEntry : Type 0 where
   pub session : Session

@@ -15,7 +15,8 @@ ghost use Rattle.track_render.specs.Reading.{IsReadOn};
 ghost use Rattle.cycle_journal.specs.JournalView.{seen_entry};
 ghost use Rattle.master_blocks.specs.State.{IsMasterOf};
 ghost use Rattle.master_blocks.specs.Bytes.{head_bytes, entry_bytes};
-ghost use Rattle.heard_blocks.specs.State.{HasHeard, Judged, NextEntry, RollsAt};
+ghost use Rattle.edit_history.specs.Judged.{Judged};
+ghost use Rattle.heard_blocks.specs.State.{HasHeard, NextEntry, RollsAt};
 ghost use Rattle.heard_blocks.specs.Reading.{IsTold, reading};
 
 use crate::fault::HeardFault;

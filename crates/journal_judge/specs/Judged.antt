@@ -24,11 +24,6 @@ pub record JudgeState : Type 0 where
 abbrev pub count_at : List TrackCount → ℕ → TrackCount
 count_at tracks t = slice_index_or tracks t no_count
 
--- what a judge doesn't hold: the session as it was opened, and the entries that were judged, newest first
-pub record Judged : Type 0 where
-  pub session : Session
-  pub entries : List Entry
-
 -- It is edition k of the session by these edits.
 pub record IsAt (s : Session) (edits : List Edit) (k : ℕ) (e : EditionState) : Type 0 where
   pub edition_of : IsEditionOf s e

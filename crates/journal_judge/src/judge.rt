@@ -7,7 +7,8 @@ ghost use Rattle.cycle_journal.specs.JournalView.{seen_entry};
 ghost use Rattle.edit_history.specs.History.{IsHistoryOf};
 ghost use Rattle.journal_judge.specs.Deciding.{goes_on, is_good};
 ghost use Rattle.journal_judge.specs.Noting.{HasRoom, AreNoted, rolled_after};
-ghost use Rattle.journal_judge.specs.Judged.{JudgeState, Judged, HasEntered, HasJudged};
+ghost use Rattle.edit_history.specs.Judged.{Judged};
+ghost use Rattle.journal_judge.specs.Judged.{JudgeState, HasEntered, HasJudged};
 
 use crate::advance::advance;
 use crate::notes::note_tracks;

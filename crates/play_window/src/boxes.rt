@@ -23,24 +23,25 @@ pub(crate) fn blanks(alloc: Global, count: u32, samples: u32) -> Result<Vec<Box<
 }
 
 /// Puts an item into the box of block `seq`, and gives the box that stood there.
-pub(crate) fn swap(boxes: &mut [Box<Item>], seq: u32, item: Box<Item>) -> Box<Item>
-    requires { 0 < length boxes.old }
-    ensures boxes { boxes.new ≡ slice_set boxes.old (seq % length boxes.old) item }
-    ensures husk { slice_get boxes.old (seq % length boxes.old) ≡ Some result }
+pub(crate) fn swap(boxes: &mut [Box<Item>], depth: u32, seq: u32, item: Box<Item>) -> Box<Item>
+    requires some { 0 < depth }
+    requires depth { length boxes.old ≡ depth }
+    ensures boxes { boxes.new ≡ slice_set boxes.old (seq % depth) item }
+    ensures husk { slice_get boxes.old (seq % depth) ≡ Some result }
 {
-    let place = seq as usize % boxes.len();
-    mem::replace(&mut boxes[place], item)
+    mem::replace(&mut boxes[(seq % depth) as usize], item)
 }
 
 /// The piece of block `seq` of a generation, where the box of that block has it.
-pub(crate) fn look(boxes: &[Box<Item>], generation: u32, seq: u32) -> Option<&Item>
-    requires { 0 < length boxes.now }
+pub(crate) fn look(boxes: &[Box<Item>], depth: u32, generation: u32, seq: u32) -> Option<&Item>
+    requires some { 0 < depth }
+    requires depth { length boxes.now ≡ depth }
     ensures piece { option_map (λ item. item_of item.now) result
-        ≡ piece_in generation seq (slice_get boxes.now (seq % length boxes.now)) }
+        ≡ piece_in generation seq (slice_get boxes.now (seq % depth)) }
     ensures room { (room : ℕ) → AllOfRoom (λ item. length item.samples.items) room boxes.now
         → IfSome result (λ item. length item.now.samples.items ≡ room) }
 {
-    let item: &Item = &boxes[seq as usize % boxes.len()];
+    let item: &Item = &boxes[(seq % depth) as usize];
     match item.kind {
         Kind::Piece {
             generation: of,

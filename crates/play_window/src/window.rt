@@ -16,6 +16,8 @@ use std::marker::Model;
 #[derive(Drop)]
 pub struct Window {
     boxes: Vec<Box<Item>>,
+    /// How many boxes: a remainder of 32 bits is the cheaper one.
+    depth: u32,
     samples: u32,
     generation: u32,
     next: u32,
@@ -23,14 +25,14 @@ pub struct Window {
 }
 
 impl Model for Window {
-    ghost use Rattle.std.specs.Prelude.{◌<◌, length, vec_len};
+    ghost use Rattle.std.specs.Prelude.{◌≡◌, ◌<◌, length};
     ghost use Rattle.disk_ring.specs.Rings.{AllOfRoom};
     ghost use Rattle.play_window.specs.WindowState.{WindowState};
 
     ghost Value = { WindowState };
 
     ghost view = { λ w. record {
-      depth = vec_len w.boxes;
+      depth = w.depth;
       samples = w.samples;
       generation = w.generation;
       next = w.next;
@@ -38,7 +40,7 @@ impl Model for Window {
       boxes = w.boxes.items;
     } };
 
-    ghost invariant = { λ w. (0 < vec_len w.boxes)
+    ghost invariant = { λ w. (0 < w.depth) × (length w.boxes.items ≡ w.depth)
         × AllOfRoom (λ item. length item.samples.items) w.samples w.boxes.items };
 }
 
@@ -73,6 +75,7 @@ impl Window {
     {
         Ok(Window {
             boxes: blanks(alloc, depth, samples)?,
+            depth,
             samples,
             generation: 0,
             next: 0,
@@ -147,7 +150,7 @@ impl Window {
     {
         self.generation = generation;
         self.next = next;
-        swap(&mut self.boxes, seq, item)
+        swap(&mut self.boxes, self.depth, seq, item)
     }
 
     /// The piece of block `seq` of a generation that was offered last. None exactly where none was, or where the block is
@@ -170,7 +173,7 @@ impl Window {
         ensures piece { option_map (λ item. item_of item.now) result ≡ has self.now generation seq }
         ensures samples { IfSome result (λ item. length item.now.samples.items ≡ self.now.samples) }
     {
-        look(&self.boxes, generation, seq)
+        look(&self.boxes, self.depth, generation, seq)
     }
 
     // Whether a block lies before the next one of the last offer.

@@ -9,7 +9,7 @@ ghost use Rattle.track_render.specs.Reading.{IsReadOn};
 ghost use Rattle.cycle_journal.specs.JournalView.{seen_entry};
 ghost use Rattle.edit_history.specs.History.{IsHistoryOf};
 ghost use Rattle.heard_blocks.specs.Reading.{IsTold, reading};
-ghost use Rattle.journal_judge.specs.Judged.{Judged};
+ghost use Rattle.edit_history.specs.Judged.{Judged};
 ghost use Rattle.report_verdict.specs.Lines.{entry_stands};
 ghost use Rattle.report_verdict.specs.Master.{block_place};
 ghost use Rattle.report_check.specs.Checking.{HasChecked, MayHaveBlock, before, samples_read};

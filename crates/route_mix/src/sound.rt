@@ -1,5 +1,5 @@
 //! A block of a route's samples, or silence, which costs nothing.
-ghost use Rattle.std.specs.Prelude.{◌≡◌, ◌≤◌, length, take, IfOk, IfSome, IfNone};
+ghost use Rattle.std.specs.Prelude.{◌≡◌, ◌≤◌, true, length, take, IfOk, IfSome, IfNone};
 ghost use Rattle.mix_kernel.specs.Blocks.{scaled, scaled_evenly, clipped};
 ghost use Rattle.mix_kernel.specs.Bounds.{AllAtMost};
 ghost use Rattle.route_mix.specs.Blocks.{silence};
@@ -24,6 +24,19 @@ impl Model for Sound {
     ghost Value = { List ℤ };
 
     ghost view = { λ s. if s.heard then s.samples.items else silence (length s.samples.items) };
+}
+
+// Whether all samples are zero. The first one mostly tells; else all are looked at, many at once.
+fn is_silent(samples: &[i32]) -> bool
+    ensures { result ≡ true → samples.now ≡ silence (length samples.now) }
+{
+    let mut silent = samples.first() == Some(&0);
+    if silent {
+        for sample in samples {
+            silent = silent & (*sample == 0);
+        }
+    }
+    silent
 }
 
 impl Sound {
@@ -76,13 +89,15 @@ impl Sound {
         }
     }
 
-    /// It is these samples.
+    /// It is these samples, of which zeros are silence.
     pub(crate) fn put(&mut self, samples: &[i32])
         requires { length samples.now ≡ length self.old }
         ensures { self.new ≡ samples.now }
     {
-        self.samples.copy_from_slice(samples);
-        self.heard = true;
+        self.heard = !is_silent(samples);
+        if self.heard {
+            self.samples.copy_from_slice(samples);
+        }
     }
 
     /// It is the clip of the sums.

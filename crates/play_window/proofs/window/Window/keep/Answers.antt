@@ -14,11 +14,11 @@ returns c =
     let depth = ap (λ w. w.depth) c.self.view_is in
     let samples = ap (λ w. w.samples) c.self.view_is in
     let boxes = c.deref_mut.ensures.value ∙ ap (λ w. w.boxes) c.self.view_is in
-    let wide : length c.args.self.now.boxes ≡ c.args.self.now.depth = omega (arith, ap length (ap (λ w. w.boxes) c.self.view_is), depth, c.self.inside.boxes.ok.0) in
+    let wide : length c.args.self.now.boxes ≡ c.args.self.now.depth = omega (arith, ap length (ap (λ w. w.boxes) c.self.view_is), depth, c.self.invariant.1) in
     let some : 0 < c.args.self.now.depth = omega (arith, depth, c.self.invariant.0) in
     record {
       now = now;
-      husk_samples = room_at (λ item. length item.samples.items) _ _ _ _ (subst (AllOfRoom (λ item. length item.samples.items) c.self.inside.samples) (sym c.deref_mut.ensures.value) c.self.invariant.1) c.swap.ensures.husk ∙ samples;
+      husk_samples = room_at (λ item. length item.samples.items) _ _ _ _ (subst (AllOfRoom (λ item. length item.samples.items) c.self.inside.samples) (sym c.deref_mut.ensures.value) c.self.invariant.2) c.swap.ensures.husk ∙ samples;
       depth = depth;
       samples = samples;
       generation = refl;
@@ -27,5 +27,5 @@ returns c =
           (record { generation = omega (arith, is.generation, c.requires.since.generation); next = λ e. omega (arith, is.next, c.requires.since.block (is.generation ∙ e)); now = now; near = c.requires.near })
           c.requires.ahead some wide
           _ depth samples refl refl (ap (λ w. w.mark) c.self.view_is)
-          (rewritten c.self.inside.boxes.len c.swap.new.boxes c.self.inside.boxes.items (c.swap.auto.boxes ∙ c.deref_mut.ensures.len) ∙ c.swap.ensures.boxes ∙ ap (λ xs. set xs (c.args.seq % length xs) c.args.item) boxes ∙ ap (λ d. set c.args.self.now.boxes (c.args.seq % d) c.args.item) wide);
+          (rewritten c.self.inside.boxes.len c.swap.new.boxes c.self.inside.boxes.items (c.swap.auto.boxes ∙ c.deref_mut.ensures.len) ∙ c.swap.ensures.boxes ∙ ap (λ xs. set xs (c.args.seq % c.self.inside.depth) c.args.item) boxes ∙ ap (λ d. set c.args.self.now.boxes (c.args.seq % d) c.args.item) depth);
     }
