@@ -31,19 +31,18 @@ const RUNS: [(Status, &str); 12] = [
     (Status::ControlTooLong, "error control-too-long\n"),
 ];
 
-fn sessions() -> [(SessionRefusal, &'static str); 10] {
-    let top = at(Part::Top, 1, 0);
-    let session = at(Part::Session, 1, 0);
-    let region = at(Part::Region, 32, 256);
-    let sent = at(Part::TrackSend, 2, 8);
-    let bus_sent = at(Part::BusSend, 3, 1);
+const SESSIONS: [(SessionRefusal, &str); 3] = [
+    (SessionRefusal::Absent, "error session absent\n"),
+    (
+        SessionRefusal::TooLong(8_388_609),
+        "error session too-long 8388609\n",
+    ),
+    (SessionRefusal::NotToml, "error session not-toml\n"),
+];
+
+// Those at a place of the session.
+fn placed() -> [(SessionRefusal, &'static str); 7] {
     [
-        (SessionRefusal::Absent, "error session absent\n"),
-        (
-            SessionRefusal::TooLong(8_388_609),
-            "error session too-long 8388609\n",
-        ),
-        (SessionRefusal::NotToml, "error session not-toml\n"),
         (
             SessionRefusal::Unknown(at(Part::Region, 1, 1)),
             "error session unknown region 1 1\n",
@@ -53,53 +52,75 @@ fn sessions() -> [(SessionRefusal, &'static str); 10] {
             "error session unknown master 1\n",
         ),
         (
-            SessionRefusal::Missing(sent, Key::To),
+            SessionRefusal::Missing(at(Part::TrackSend, 2, 8), Key::To),
             "error session missing track-send 2 8 to\n",
         ),
         (
-            SessionRefusal::Kind(top, Key::Bus),
+            SessionRefusal::Kind(at(Part::Top, 1, 0), Key::Bus),
             "error session kind top 1 bus\n",
         ),
         (
-            SessionRefusal::Range(session, Key::Block),
+            SessionRefusal::Range(at(Part::Session, 1, 0), Key::Block),
             "error session range session 1 block\n",
         ),
         (
-            SessionRefusal::Range(region, Key::FadeOut),
+            SessionRefusal::Range(at(Part::Region, 32, 256), Key::FadeOut),
             "error session range region 32 256 fade_out\n",
         ),
         (
-            SessionRefusal::Range(bus_sent, Key::Gain),
+            SessionRefusal::Range(at(Part::BusSend, 3, 1), Key::Gain),
             "error session range bus-send 3 1 gain\n",
         ),
     ]
 }
 
-fn inputs() -> [(InputRefusal, &'static str); 4] {
-    [
-        (
-            InputRefusal::Wav(WavRefusal::Align(3)),
-            "error input align 3\n",
-        ),
-        (
-            InputRefusal::Wav(WavRefusal::HeadTooLong(16_777_217)),
-            "error input head-too-long 16777217\n",
-        ),
-        (
-            InputRefusal::RateDiffers {
-                has: 44_100,
-                want: 48_000,
-            },
-            "error input rate-differs 44100 48000\n",
-        ),
-        (
-            InputRefusal::InputChannels { has: 1, want: 2 },
-            "error input input-channels 1 2\n",
-        ),
-    ]
-}
+const INPUTS: [(InputRefusal, &str); 4] = [
+    (
+        InputRefusal::Wav(WavRefusal::Align(3)),
+        "error input align 3\n",
+    ),
+    (
+        InputRefusal::Wav(WavRefusal::HeadTooLong(16_777_217)),
+        "error input head-too-long 16777217\n",
+    ),
+    (
+        InputRefusal::RateDiffers {
+            has: 44_100,
+            want: 48_000,
+        },
+        "error input rate-differs 44100 48000\n",
+    ),
+    (
+        InputRefusal::InputChannels { has: 1, want: 2 },
+        "error input input-channels 1 2\n",
+    ),
+];
 
-fn named(lead: Name) -> [(Status, &'static str); 9] {
+// Of the source `lead`.
+const SOURCES: [(FileRefusal, &str); 5] = [
+    (FileRefusal::Absent, "error source lead absent\n"),
+    (
+        FileRefusal::Wav(WavRefusal::Format(3)),
+        "error source lead format 3\n",
+    ),
+    (
+        FileRefusal::Wav(WavRefusal::Truncated { want: 16, have: 10 }),
+        "error source lead truncated 16 10\n",
+    ),
+    (
+        FileRefusal::RateDiffers {
+            has: 44_100,
+            want: 48_000,
+        },
+        "error source lead rate-differs 44100 48000\n",
+    ),
+    (
+        FileRefusal::ChannelsDiffer { has: 2, want: 1 },
+        "error source lead channels-differ 2 1\n",
+    ),
+];
+
+fn named(lead: Name) -> [(Status, &'static str); 4] {
     [
         (Status::TakesExist(lead), "error takes-exist lead\n"),
         (
@@ -113,35 +134,6 @@ fn named(lead: Name) -> [(Status, &'static str); 9] {
         (
             Status::Session(SessionRefusal::NotBus(lead)),
             "error session not-bus lead\n",
-        ),
-        (
-            Status::SourceFile(lead, FileRefusal::Absent),
-            "error source lead absent\n",
-        ),
-        (
-            Status::SourceFile(lead, FileRefusal::Wav(WavRefusal::Format(3))),
-            "error source lead format 3\n",
-        ),
-        (
-            Status::SourceFile(
-                lead,
-                FileRefusal::Wav(WavRefusal::Truncated { want: 16, have: 10 }),
-            ),
-            "error source lead truncated 16 10\n",
-        ),
-        (
-            Status::SourceFile(
-                lead,
-                FileRefusal::RateDiffers {
-                    has: 44_100,
-                    want: 48_000,
-                },
-            ),
-            "error source lead rate-differs 44100 48000\n",
-        ),
-        (
-            Status::SourceFile(lead, FileRefusal::ChannelsDiffer { has: 2, want: 1 }),
-            "error source lead channels-differ 2 1\n",
         ),
     ]
 }
@@ -184,17 +176,41 @@ fn each_end_of_a_run_has_its_line(rt: HostRuntime) {
     for (row, (status, line)) in RUNS.iter().enumerate() {
         assert!(rt; is_written(rt.alloc(), status, line), "row {row}");
     }
-    for (row, (why, line)) in sessions().iter().enumerate() {
-        assert!(rt;
-            is_written(rt.alloc(), &Status::Session(*why), line),
-            "row {row}"
-        );
+}
+
+#[test]
+fn each_refusal_of_a_session_has_its_line(rt: HostRuntime) {
+    for (row, (why, line)) in SESSIONS.iter().enumerate() {
+        let status = Status::Session(*why);
+        assert!(rt; is_written(rt.alloc(), &status, line), "row {row}");
     }
-    for (row, (why, line)) in inputs().iter().enumerate() {
-        assert!(rt;
-            is_written(rt.alloc(), &Status::BadInput(*why), line),
-            "row {row}"
-        );
+}
+
+#[test]
+fn each_refusal_at_a_place_has_its_line(rt: HostRuntime) {
+    for (row, (why, line)) in placed().iter().enumerate() {
+        let status = Status::Session(*why);
+        assert!(rt; is_written(rt.alloc(), &status, line), "row {row}");
+    }
+}
+
+#[test]
+fn each_refusal_of_an_input_has_its_line(rt: HostRuntime) {
+    for (row, (why, line)) in INPUTS.iter().enumerate() {
+        let status = Status::BadInput(*why);
+        assert!(rt; is_written(rt.alloc(), &status, line), "row {row}");
+    }
+}
+
+#[test]
+fn each_refusal_of_a_source_has_its_line(rt: HostRuntime) {
+    let Ok(lead) = Name::new("lead") else {
+        assert!(rt; false);
+        return;
+    };
+    for (row, (why, line)) in SOURCES.iter().enumerate() {
+        let status = Status::SourceFile(lead, *why);
+        assert!(rt; is_written(rt.alloc(), &status, line), "row {row}");
     }
 }
 

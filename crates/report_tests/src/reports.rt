@@ -152,10 +152,6 @@ const ROWS: [Row; 5] = [
 fn journal(alloc: Global, row: &Row) -> Option<Journal> {
     let mut journal = Journal::new(alloc, row.cycles).ok()?;
     for (edition, settled, state, all) in row.entries {
-        let mut notes = ArrayVec::new();
-        for note in *all {
-            notes.try_push(*note).ok()?;
-        }
         if journal.entries().len() >= journal.room() as usize {
             return None;
         }
@@ -163,7 +159,7 @@ fn journal(alloc: Global, row: &Row) -> Option<Journal> {
             edition: *edition,
             settled: *settled,
             state: *state,
-            notes,
+            notes: ArrayVec::try_from(*all).ok()?,
         });
     }
     Some(journal)
