@@ -1,6 +1,6 @@
 //! A butler's ends meet those of the process.
 ghost use Rattle.std.specs.Prelude.{◌≡◌};
-ghost use Rattle.process_cycle.specs.Ends.{AreOtherEnds, EndsMeet};
+ghost use Rattle.process_cycle.specs.Ends.{EndsMeet, MayMeet};
 ghost use Rattle.process_cycle.specs.Looked.{HasLooked};
 ghost use Rattle.process_cycle.specs.Playing.{IsPlaying};
 ghost use Rattle.process_cycle.specs.ProcessState.{Playing};
@@ -11,11 +11,11 @@ use process_cycle::Process;
 use ses_io::{Media, Sink, Source};
 
 impl<M: Media> Butler<M> {
-    /// Each of its ends and the process's end of the same ring tell each other what they know.
-    /// Nothing else changes, and nothing is moved.
+    /// Each of its ends and the process's end of the same ring tell each other what they know, where
+    /// something moved since they met. Nothing else changes, and nothing is moved.
     pub fn meet<I: Source, W: Sink>(&mut self, process: &mut Process<I, W>)
         ghost at: { Playing }
-        requires { AreOtherEnds process.old.ends self.old.ends }
+        requires { MayMeet process.old.ends self.old.ends }
         ensures same { self.new ≡ record self.old { ends = self.new.ends } }
         ensures process { process.new ≡ record process.old { ends = process.new.ends } }
         ensures ends { EndsMeet process.old.ends self.old.ends process.new.ends self.new.ends }

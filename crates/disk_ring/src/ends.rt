@@ -66,12 +66,16 @@ pub fn ring<T: Roomy + Drop>(
         seat: first,
         count: 0,
         depth: u64::from(depth),
+        got: 0,
+        closed: false,
     };
     let receiver = RingOut {
         ring_table: theirs,
         seat: second,
         count: 0,
         depth: u64::from(depth),
+        told: 0,
+        over: false,
     };
     Ok((sender, receiver))
 }

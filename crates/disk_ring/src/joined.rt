@@ -1,8 +1,8 @@
 //! The two ends of a ring in one place: they tell each other what they know, or become one.
-ghost use Rattle.std.specs.Prelude.{◌≡◌, length};
+ghost use Rattle.std.specs.Prelude.{◌≡◌, IsTrue, length};
 ghost use Rattle.disk_ring.specs.Sender.{GoesOnIn};
 ghost use Rattle.disk_ring.specs.Receiver.{GoesOnOut};
-ghost use Rattle.disk_ring.specs.Rings.{Met, Whole, joined_of};
+ghost use Rattle.disk_ring.specs.Rings.{Agree, Met, StillMet, Whole, joined_of};
 
 use crate::ring_in::RingIn;
 use crate::ring_out::RingOut;
@@ -39,6 +39,33 @@ pub fn meet<T: Roomy>(a: &mut RingIn<T>, b: &mut RingOut<T>)
     tell_heard(&a.ring_table, &mut a.seat, &mut b.seat);
     tell_consumer(&a.ring_table, &mut b.seat, &mut a.seat);
     tell_producer(&a.ring_table, &mut a.seat, &mut b.seat);
+    a.got = b.count;
+    b.told = a.count;
+    b.over = a.closed;
+}
+
+// Whether their counts say that nothing moved since the two ends met.
+fn agree<T: Roomy>(a: &RingIn<T>, b: &RingOut<T>) -> bool
+    ensures { IsTrue result → Agree a.now b.now }
+{
+    let knows_all = a.got == b.count && b.told == a.count;
+    knows_all && !a.closed && !b.over
+}
+
+/// The same of two ends that have met before: where their counts say that nothing moved since, it
+/// does nothing.
+pub fn meet_again<T: Roomy>(a: &mut RingIn<T>, b: &mut RingOut<T>)
+    requires ring { b.old.ring ≡ a.old.ring }
+    requires still_met { StillMet a.old b.old }
+    ensures sender { a.new ≡ record a.old { got = length b.old.received } }
+    ensures receiver { b.new ≡ record b.old { heard = a.old.sent; over = a.old.closed } }
+    ensures met { Met a.old b.old }
+    ensures sender_goes_on { GoesOnIn a.old a.new }
+    ensures receiver_goes_on { GoesOnOut b.old b.new }
+{
+    if !agree(a, b) {
+        meet(a, b);
+    }
 }
 
 /// The ring of two ends, which nothing changes any more.

@@ -17,7 +17,7 @@ mod steps;
 mod tells;
 
 pub use ends::ring;
-pub use joined::{Ring, meet, rejoin};
+pub use joined::{Ring, meet, meet_again, rejoin};
 pub use lists::{RingInList, RingOutList};
 pub use nothing::Nothing;
 pub use ring_in::{Full, RingIn};

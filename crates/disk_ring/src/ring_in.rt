@@ -18,6 +18,9 @@ pub struct RingIn<T: Roomy> {
     pub(crate) seat: Place<T>,
     pub(crate) count: u64,
     pub(crate) depth: u64,
+    /// How many items were received, as far as it knows.
+    pub(crate) got: u64,
+    pub(crate) closed: bool,
 }
 
 impl<T: Roomy> Model for RingIn<T> {
@@ -30,7 +33,7 @@ impl<T: Roomy> Model for RingIn<T> {
     ghost view = { λ r. sender_of r.seat r.depth };
 
     ghost invariant = { λ r. SenderOk (arc_value r.ring_table).shared.table_id r.seat r.count
-        r.depth };
+        r.depth r.got r.closed };
 }
 
 /// The item wasn't put, and comes back, with the head that was loaded: the number received by then.
@@ -61,6 +64,7 @@ impl<T: Roomy> RingIn<T> {
     {
         let ring_table: &RingTable<T> = &self.ring_table;
         let head = look_at_head(ring_table, &mut self.seat);
+        self.got = head;
         if is_full(self.count, head, self.depth) {
             return Err(Full { item: full, head });
         }
@@ -75,5 +79,6 @@ impl<T: Roomy> RingIn<T> {
         ensures { self.new ≡ record self.old { closed = true } }
     {
         shut_off(&self.ring_table, &mut self.seat, self.count);
+        self.closed = true;
     }
 }

@@ -18,6 +18,9 @@ pub struct RingOut<T: Roomy> {
     pub(crate) seat: Place<T>,
     pub(crate) count: u64,
     pub(crate) depth: u64,
+    /// Of how many items it was told, and whether it was told that these are all.
+    pub(crate) told: u64,
+    pub(crate) over: bool,
 }
 
 impl<T: Roomy> Model for RingOut<T> {
@@ -30,7 +33,8 @@ impl<T: Roomy> Model for RingOut<T> {
     ghost view = { λ r. receiver_of r.seat r.depth };
 
     ghost invariant = { λ r.
-        ReceiverOk (arc_value r.ring_table).shared.table_id r.seat r.count r.depth };
+        ReceiverOk (arc_value r.ring_table).shared.table_id r.seat r.count r.depth
+        r.told r.over };
 }
 
 // The answer of an end that received all, by the close bit of the tail word.
@@ -68,6 +72,8 @@ impl<T: Roomy> RingOut<T> {
         let word = look_at_tail(ring_table, &mut self.seat);
         let tail = word / 2;
         if tail == self.count {
+            self.told = tail;
+            self.over = word % 2 == 1;
             return Err(nothing(word, husk));
         }
         let slot = (self.count % self.depth) as usize;

@@ -3,10 +3,12 @@ use Rattle.std.proofs.Common.{◌≡◌, ℕ, zero, suc, ◌<◌, ◌≤◌, ◌
 use Rattle.std.specs.Prelude.{map}
 use mathlib.Core.Logic.{dite}
 use native.Mathlib.Decide.{ℕ_discrete}
+use Rattle.std.proofs.lemmas.Option.{slice_get_read}
 use Rattle.std.proofs.lemmas.List.{get_or-set_same, get_or-set_other, get_or_default, length-set, length-map, same_lists}
 use Rattle.disk_ring.specs.Sender.{Sender}
 use Rattle.disk_ring.specs.Receiver.{Receiver}
-use Rattle.process_cycle.specs.Ends.{AllMeet, Meet, shut}
+use Rattle.disk_ring.specs.Rings.{StillMet}
+use Rattle.process_cycle.specs.Ends.{AllMeet, AllStillMet, AreOfOneRing, Meet, shut}
 
 -- an item of a list whose items were all changed
 mapped_at : {X Y : Type 0} (f : X → Y) (xs : List X) (k : ℕ) (x : X) (y : Y) → k < length xs → slice_index_or (map f xs) k y ≡ f (slice_index_or xs k x)
@@ -52,6 +54,13 @@ module _ {T : Type 0} where
         (subst (λ z. Meet (slice_index_or a n u) (slice_index_or b n v) x' z) (sym (get_or-set_same d n y' v in_d))
         (subst (λ z. Meet z (slice_index_or b n v) x' y') (sym (get_or_default c n u x in_c) ∙ below.sender_left n u (omega arith))
         (subst (λ z. Meet (slice_index_or c n x) z x' y') (sym (get_or_default d n v y in_d) ∙ below.receiver_left n v (omega arith)) meet)))
+
+  -- the next pair is as it was at first
+  pub still_met : (a : List (Sender T)) (b : List (Receiver T)) (c : List (Sender T)) (d : List (Receiver T)) (n : ℕ) → MetBelow a b c d n → AreOfOneRing a b → AllStillMet a b → n < length a
+      → (x : Sender T) (y : Receiver T) → StillMet (slice_index_or c n x) (slice_index_or d n y)
+  still_met a b c d n below one still within x y = let s = slice_index_or c n x in let r = slice_index_or d n y in let near : n < length b = omega (arith, within, one.count) in
+      still n s r (slice_get_read a (length a) n s refl within (below.sender_left n x (omega arith) ∙ get_or_default a n x s within))
+      (slice_get_read b (length b) n r refl near (below.receiver_left n y (omega arith) ∙ get_or_default b n y r near))
 
   pub all_shut : (a c : List (Sender T)) (n : ℕ) → ShutBelow a c n → length c ≤ n → c ≡ map shut a
   all_shut a c n below all = same_lists c (map shut a) (below.senders ∙ sym (length-map a shut))

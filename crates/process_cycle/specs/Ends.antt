@@ -4,7 +4,7 @@ use Rattle.session_model.specs.declared.session.Session.{Session}
 use Rattle.session_model.specs.Formed.{channels_at}
 use Rattle.disk_ring.specs.Sender.{Sender}
 use Rattle.disk_ring.specs.Receiver.{Receiver}
-use Rattle.disk_ring.specs.Rings.{Met}
+use Rattle.disk_ring.specs.Rings.{Met, StillMet}
 use Rattle.piece_item.specs.declared.item.Item.{Item}
 use Rattle.piece_item.specs.declared.take_block.TakeBlock.{TakeBlock}
 use Rattle.piece_item.specs.declared.butler_ends.ButlerEnds.{ButlerEnds}
@@ -68,6 +68,17 @@ pub record AreOtherEnds (ours : ProcessEnds) (theirs : ButlerEnds) : Type 0 wher
   pub plays : AreOfOneRing theirs.sends.items ours.plays.items
   pub takes : AreOfOneRing ours.takes.items theirs.takes.items
   pub acks : theirs.acks.ring ≡ ours.to_butler.ring
+
+-- of each pair whose counts agree what is so of ends that meet is so
+abbrev pub AllStillMet : {T : Type 0} → List (Sender T) → List (Receiver T) → Type 0
+AllStillMet {T} senders receivers = (t : ℕ) (a : Sender T) (b : Receiver T) → slice_get senders t ≡ Some a → slice_get receivers t ≡ Some b → StillMet a b
+
+-- The butler's ends may be met again: a pair on which nothing moved since it met is left as it is.
+pub record MayMeet (ours : ProcessEnds) (theirs : ButlerEnds) : Type 0 where
+  pub others : AreOtherEnds ours theirs
+  pub plays : AllStillMet theirs.sends.items ours.plays.items
+  pub takes : AllStillMet ours.takes.items theirs.takes.items
+  pub acks : StillMet ours.to_butler theirs.acks
 
 pub record EndsMeet (ours : ProcessEnds) (theirs : ButlerEnds) (ours_now : ProcessEnds) (theirs_now : ButlerEnds) : Type 0 where
   pub plays : AllMeet theirs.sends.items ours.plays.items theirs_now.sends.items ours_now.plays.items

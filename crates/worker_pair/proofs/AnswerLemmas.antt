@@ -9,7 +9,7 @@ use Rattle.process_cycle.specs.declared.ends.ProcessEnds.{ProcessEnds}
 use Rattle.process_cycle.specs.declared.fault.CycleFault.{CycleFault}
 use Rattle.process_cycle.specs.declared.fault.CycleFault.TheVariants.{InputFault, MasterFault}
 use Rattle.process_cycle.specs.Cycles.{CycleReads, CycleWrites, HasStopped, MakesEntry, next_bytes}
-use Rattle.process_cycle.specs.Ends.{AreOtherEnds, EndsMeet}
+use Rattle.process_cycle.specs.Ends.{EndsMeet, MayMeet}
 use Rattle.process_cycle.specs.Playing.{IsPlaying}
 use Rattle.process_cycle.specs.Promised.{IsMastered}
 use Rattle.process_cycle.specs.ProcessState.{ProcessState}
@@ -20,14 +20,20 @@ use Rattle.worker_pair.specs.Runs.{HearsInput, Rests, Runs}
 use Rattle.worker_pair.specs.Steps.{EndsAsMachine}
 use Rattle.worker_pair.proofs.NowLemmas.{runs_rest}
 use Rattle.worker_pair.proofs.CoreEndLemmas.{ends_as_machine}
-use Rattle.worker_pair.proofs.EndLemmas.{others_cycled, runs_cycled}
+use Rattle.worker_pair.proofs.AgainLemmas.{all_known, still_known}
+use Rattle.worker_pair.proofs.EndLemmas.{may_meet_cycled, runs_cycled}
 use Rattle.worker_pair.proofs.FaultLemmas.{hears_stopped, now, rests_stopped}
 
 module _ {V I W : Type 0} (media : MediaOutside V) (inputs : SourceOutside I) (sinks : SinkOutside W) (at : At) (old : Pair V I W) (may : MayCycle media inputs sinks at old) (q : ProcessState I W) where
-  -- the ends are those of the same rings
-  pub others_either : (answer : Result (Unit {0}) CycleFault) → OnOk answer (MakesEntry at.begun.session old.playing old.process q) → OnErr answer (HasStopped old.process q) → AreOtherEnds q.ends old.butler.ends
-  others_either (Ok x) made stopped = others_cycled media inputs sinks at old may q made
-  others_either (Err why) made stopped = subst (λ (z : ProcessState I W). AreOtherEnds z.ends old.butler.ends) (sym stopped) may.runs.serves.others
+  -- the ends may meet again
+  pub may_meet_either : (answer : Result (Unit {0}) CycleFault) → OnOk answer (MakesEntry at.begun.session old.playing old.process q) → OnErr answer (HasStopped old.process q) → MayMeet q.ends old.butler.ends
+  may_meet_either (Ok x) made stopped = may_meet_cycled media inputs sinks at old may q made
+  may_meet_either (Err why) made stopped = let serves = may.runs.serves in subst (λ (z : ProcessState I W). MayMeet z.ends old.butler.ends) (sym stopped) (record {
+    others = serves.others;
+    plays = all_known old.butler.ends.sends.items old.process.ends.plays.items serves.met.plays;
+    takes = all_known old.process.ends.takes.items old.butler.ends.takes.items serves.met.takes;
+    acks = still_known old.process.ends.to_butler old.butler.ends.acks serves.met.acks;
+  })
 
   module _ (ours : ProcessEnds) (theirs : ButlerEnds) (meet : EndsMeet q.ends old.butler.ends ours theirs) where
     -- the pair after the meeting

@@ -2,7 +2,7 @@
 use Rattle.std.proofs.Common.{◌≡◌, ◌<◌, ◌≤◌, length, refl, sym, ap, subst, arith, ◌∙◌}
 use Rattle.std.specs.Prelude.{true, false, All, slice_index_or}
 use Rattle.std.proofs.lemmas.Bool.{false≢true}
-use Rattle.std.proofs.lemmas.Option.{get_or_from_slice_get, slice_get-get_or}
+use Rattle.std.proofs.lemmas.Option.{get_or_from_slice_get, slice_get-get_or, slice_get_within}
 use Rattle.ses_io.specs.FixedList.{Listed}
 use Rattle.ses_io.specs.Outside.{MediaOutside, SourceOutside, SinkOutside}
 use Rattle.session_model.specs.declared.session.Session.{Session}
@@ -15,7 +15,7 @@ use Rattle.piece_item.specs.declared.take_block.TakeBlock.{TakeBlock}
 use Rattle.cycle_journal.specs.declared.entry.Entry.{Entry}
 use Rattle.process_cycle.specs.declared.ends.ProcessEnds.{ProcessEnds}
 use Rattle.process_cycle.specs.Cycles.{MakesEntry, ack_of}
-use Rattle.process_cycle.specs.Ends.{AreOfOneRing, AreOtherEnds, EndsMeet}
+use Rattle.process_cycle.specs.Ends.{AllStillMet, AreOfOneRing, AreOtherEnds, EndsMeet, MayMeet}
 use Rattle.process_cycle.specs.Playing.{IsPlaying}
 use Rattle.process_cycle.specs.Promised.{IsMastered}
 use Rattle.process_cycle.specs.ProcessState.{ProcessState}
@@ -25,6 +25,7 @@ use Rattle.worker_pair.specs.Never.{NothingIsTaken}
 use Rattle.worker_pair.specs.Plays.{MayCycle}
 use Rattle.worker_pair.specs.Runs.{HasEntered, Runs}
 use Rattle.worker_pair.specs.Tied.{rings_of}
+use Rattle.worker_pair.proofs.AgainLemmas.{ack_puts, all_in, all_known, capture_puts, still_in}
 use Rattle.worker_pair.proofs.MetLemmas.{serves_met}
 use Rattle.worker_pair.proofs.LeftLemmas.{serves_left}
 use Rattle.worker_pair.proofs.LongerLemmas.{edition_longer}
@@ -86,6 +87,17 @@ module _ {V I W : Type 0} (media : MediaOutside V) (inputs : SourceOutside I) (s
     plays = subst (λ l. AreOfOneRing old.butler.ends.sends.items l.items) (sym plays_same) was.plays;
     takes = takes_others;
     acks = was.acks ∙ sym (acks_on (ack_of q m.made) p.ends.to_butler q.ends.to_butler m.to_butler);
+  }
+
+  -- and may meet again
+  pub may_meet_cycled : MayMeet q.ends old.butler.ends
+  may_meet_cycled = let met = may.runs.serves.met in record {
+    others = others_cycled;
+    plays = subst (λ l. AllStillMet old.butler.ends.sends.items l.items) (sym plays_same) (all_known old.butler.ends.sends.items p.ends.plays.items met.plays);
+    takes = all_in p.ends.takes.items q.ends.takes.items old.butler.ends.takes.items met.takes m.rings
+        (λ t k l hk hl. let note = item_at m.made.notes.items t (omega (arith, slice_get_within p.ends.takes.items t k hk, m.notes)) in
+        capture_puts s t q.input.stream.form.channels q.input.samples note.0.take k l (m.captured t k l note.0 hk hl note.1));
+    acks = still_in p.ends.to_butler q.ends.to_butler old.butler.ends.acks met.acks (ack_puts (ack_of q m.made) p.ends.to_butler q.ends.to_butler m.to_butler);
   }
 
   module _ (ours : ProcessEnds) (theirs : ButlerEnds) (meet : EndsMeet q.ends old.butler.ends ours theirs) where

@@ -3,6 +3,7 @@ use Rattle.std.proofs.Common.{◌≡◌, ℕ, ◌<◌, List, length, drop, take,
 use Rattle.std.proofs.Math.Seq.{take-append_seam}
 use Rattle.std.specs.Prelude.{Bool, true, false, slice_get, slice_index_or, Some}
 use Rattle.std.proofs.lemmas.List.{take-append-drop, take-append-le}
+use Rattle.std.proofs.lemmas.Option.{get_or_from_slice_get, slice_get_within}
 use mathlib.Core.List.{IsPrefix}
 use Rattle.ses_io.specs.Outside.{MediaOutside, SourceOutside, SinkOutside}
 use Rattle.session_model.specs.declared.edit.Edit.{Edit}
@@ -13,7 +14,8 @@ use Rattle.machine_model.specs.Letters.{gather_moves}
 use Rattle.machine_laws.proofs.LookLemmas.{AllWithin, gather_done}
 use Rattle.machine_laws.proofs.Tracks.{also_there}
 use Rattle.disk_ring.specs.Sender.{Sender}
-use Rattle.disk_ring.specs.Receiver.{Receiver}
+use Rattle.disk_ring.specs.Receiver.{Receiver, GoesOnOut}
+use Rattle.disk_ring.specs.Rings.{StillMet}
 use Rattle.piece_item.specs.declared.butler_ends.ButlerEnds.{ButlerEnds}
 use Rattle.piece_item.specs.declared.item.Item.{Item}
 use Rattle.track_playback.specs.declared.playback.SpareBox.{SpareBox}
@@ -25,7 +27,7 @@ use Rattle.track_playback.specs.Looks.{EndsWith}
 use Rattle.process_cycle.specs.declared.ends.ProcessEnds.{ProcessEnds}
 use Rattle.process_cycle.specs.declared.process.Look.{Look}
 use Rattle.process_cycle.specs.declared.process.Look.TheVariants.{Ready, Short}
-use Rattle.process_cycle.specs.Ends.{AreOfOneRing, AreOtherEnds, EndsMeet}
+use Rattle.process_cycle.specs.Ends.{AllStillMet, AreOfOneRing, AreOtherEnds, EndsMeet, MayMeet}
 use Rattle.process_cycle.specs.Looked.{Keeps, LookAnswers, LooksAtAll}
 use Rattle.process_cycle.specs.Playing.{IsPlaying}
 use Rattle.process_cycle.specs.Promised.{IsMastered}
@@ -37,6 +39,7 @@ use Rattle.worker_pair.specs.Never.{NothingIsTaken}
 use Rattle.worker_pair.specs.Plays.{Looks}
 use Rattle.worker_pair.specs.Runs.{HasEntered, Runs, Serves}
 use Rattle.worker_pair.specs.Tied.{IsControlRing, IsTied, rings_of}
+use Rattle.worker_pair.proofs.AgainLemmas.{all_known, all_out, still_known}
 use Rattle.worker_pair.proofs.MetLemmas.{ServesApart, meet_at, rings_met, serves_met}
 use Rattle.worker_pair.proofs.NowLemmas.{control_on}
 use Rattle.worker_pair.proofs.GatherLemmas.{look_ups_are_over, looked_core, rings_looked, track_within}
@@ -78,6 +81,21 @@ module _ {V I W : Type 0} (media : MediaOutside V) (inputs : SourceOutside I) (s
     plays = plays_same;
     takes = subst (λ (z : ProcessState I W). AreOfOneRing z.ends.takes.items old.butler.ends.takes.items) (sym keeps.same) runs.serves.others.takes;
     acks = runs.serves.others.acks ∙ ap (λ (z : ProcessState I W). z.ends.to_butler.ring) (sym keeps.same);
+  }
+
+  -- what a look does to the end of a track
+  looked_on : (t : ℕ) (x y : Receiver Item) → slice_get old.process.ends.plays.items t ≡ Some x → slice_get q.ends.plays.items t ≡ Some y → GoesOnOut x y
+  looked_on t x y hx hy = let here = slice_get_within old.process.ends.plays.items t x hx in let d = item_at old.process.playbacks t (omega (arith, here, runs.playing.plays, runs.playing.playbacks)) in
+      subst (λ z. GoesOnOut z y) (get_or_from_slice_get old.process.ends.plays.items t x x hx)
+      (subst (GoesOnOut (slice_index_or old.process.ends.plays.items t x)) (get_or_from_slice_get q.ends.plays.items t y x hy) (looks.looks t x d.0 here).ring)
+
+  -- and all ends may meet again
+  pub may_meet_looked : MayMeet q.ends old.butler.ends
+  may_meet_looked = let met = runs.serves.met in record {
+    others = others_looked;
+    plays = all_out old.butler.ends.sends.items old.process.ends.plays.items q.ends.plays.items met.plays looks.many looked_on;
+    takes = subst (λ (z : ProcessState I W). AllStillMet z.ends.takes.items old.butler.ends.takes.items) (sym keeps.same) (all_known old.process.ends.takes.items old.butler.ends.takes.items met.takes);
+    acks = subst (λ (z : ProcessState I W). StillMet z.ends.to_butler old.butler.ends.acks) (sym keeps.same) (still_known old.process.ends.to_butler old.butler.ends.acks met.acks);
   }
 
   module _ (ours : ProcessEnds) (theirs : ButlerEnds) (meet : EndsMeet q.ends old.butler.ends ours theirs) where

@@ -1,5 +1,6 @@
 -- Why the workers are the core machine, and keep what they promise.
 pub mod AckLemmas
+pub mod AgainLemmas
 pub mod AloneLemmas
 pub mod AnswerLemmas
 pub mod BeginLemmas

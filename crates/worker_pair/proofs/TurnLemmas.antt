@@ -23,12 +23,13 @@ use Rattle.butler.specs.Serving.{AreStocked, IsServing, SourcesStand}
 use Rattle.butler.specs.Turns.{Receives, TakesAreKept, AllSend, StaysTrue, Answers}
 use Rattle.butler.proofs.SourceLemmas.{sources_are_no_takes}
 use Rattle.process_cycle.specs.declared.ends.ProcessEnds.{ProcessEnds}
-use Rattle.process_cycle.specs.Ends.{AreOtherEnds, EndsMeet}
+use Rattle.process_cycle.specs.Ends.{AreOtherEnds, EndsMeet, MayMeet}
 use Rattle.worker_pair.specs.declared.ending.Ending.{Ending}
 use Rattle.worker_pair.specs.Begun.{At, turned, served_at}
 use Rattle.worker_pair.specs.Runs.{Serves}
 use Rattle.worker_pair.specs.Steps.{IsTurned}
 use Rattle.worker_pair.specs.Takes.{FilesStand, HoldsTakes, MayRecord, run_of}
+use Rattle.worker_pair.proofs.AgainLemmas.{all_in, all_out, still_out}
 use Rattle.worker_pair.proofs.MetLemmas.{have_met, others_met, flush_met, no_take_met, with_ends, ServesApart, kept_met, serves_met}
 use Rattle.worker_pair.proofs.TotalLemmas.{none_received, nothing_in_all, same_in_all}
 
@@ -82,6 +83,15 @@ module _ {V : Type 0} (media : MediaOutside V) where
             ∙ sym (ap (λ (z : Receiver TakeBlock). z.ring) (get_or_from_slice_get e.butler.ends.takes.items t c.0 r c.1)) ∙ was.takes.ring t a r within;
       };
       acks = turn.receives.acks.goes_on.ring ∙ was.acks;
+    }
+
+    -- and may meet again
+    pub may_meet_turned : MayMeet e.ends b.ends
+    may_meet_turned = let met = serves.met in record {
+      others = others_turned;
+      plays = all_in D F e.ends.plays.items met.plays many_sends (λ t d f hd hf. let on = turn.sends t d f hd hf in record { depth = on.depth; sent = (on.items, sym on.sent) });
+      takes = all_out e.ends.takes.items e.butler.ends.takes.items b.ends.takes.items met.takes turn.receives.takes.many (λ t c q hc hq. (turn.receives.takes.each t c q hc hq).goes_on);
+      acks = still_out e.ends.to_butler e.butler.ends.acks b.ends.acks met.acks turn.receives.acks.goes_on;
     }
 
     -- after a failed write nothing more is written

@@ -4,7 +4,7 @@ ghost use Rattle.std.specs.Prelude.{◌≡◌, true, [], length, IfErr, OnOk};
 ghost use Rattle.ses_io.specs.Outside.{Writes};
 ghost use Rattle.master_blocks.specs.Bytes.{head_bytes, end_bytes};
 ghost use Rattle.process_cycle.specs.declared.fault.CycleFault.TheVariants.{MasterFault};
-ghost use Rattle.process_cycle.specs.Ends.{AreOtherEnds};
+ghost use Rattle.process_cycle.specs.Ends.{MayMeet};
 ghost use Rattle.process_cycle.specs.Looked.{HasLooked, LookAnswers};
 ghost use Rattle.process_cycle.specs.Playing.{IsPlaying};
 ghost use Rattle.process_cycle.specs.ProcessState.{Playing};
@@ -59,7 +59,7 @@ impl<M: Media, I: Source, W: Sink> Pair<M, I, W> {
     // The two ends of each ring tell each other what they know. Nothing else changes.
     fn meet(&mut self)
         ghost at: { Playing }
-        requires { AreOtherEnds self.old.process.ends self.old.butler.ends }
+        requires { MayMeet self.old.process.ends self.old.butler.ends }
         ensures same { self.new ≡ record self.old
             { butler = self.new.butler; process = self.new.process } }
         ensures meets { MeetsAfter self.old self.old.process self.new }

@@ -1,6 +1,6 @@
 //! How a process meets the butler on one thread, and what it leaves when it is taken apart.
 ghost use Rattle.std.specs.Prelude.{◌≡◌};
-ghost use Rattle.process_cycle.specs.Ends.{AreOtherEnds, EndsMeet, shut_ends};
+ghost use Rattle.process_cycle.specs.Ends.{EndsMeet, MayMeet, shut_ends};
 ghost use Rattle.process_cycle.specs.ProcessState.{Playing};
 ghost use Rattle.process_cycle.specs.Promised.{IsMastered};
 ghost use Rattle.process_cycle.specs.Playing.{IsPlaying};
@@ -28,7 +28,7 @@ impl<I: Source, W: Sink> Process<I, W> {
     /// changes.
     pub fn meet(&mut self, other: &mut ButlerEnds)
         ghost at: { Playing }
-        requires { AreOtherEnds self.old.ends other.old }
+        requires { MayMeet self.old.ends other.old }
         ensures same { self.new ≡ record self.old { ends = self.new.ends } }
         ensures ends { EndsMeet self.old.ends other.old self.new.ends other.new }
         ensures playing { IsPlaying I.outside at self.old → IsPlaying I.outside at self.new }

@@ -9,7 +9,7 @@ use Rattle.butler.proofs.butler.Butler.meet.Goals as goal
 -- src/meeting.rt
 pub invariant_of-self : goal.invariant_of-self
 invariant_of-self g c = let inside = c.self.inside in let ours = c.args.process.now.ends in
-    let told = ends_told ours c.meet.new.self.ends inside.ends c.meet.new.other (subst (λ b. AreOtherEnds ours b.ends) (sym c.self.view_is) c.requires.1.1.1) c.meet.ensures.ends in (
+    let told = ends_told ours c.meet.new.self.ends inside.ends c.meet.new.other (subst (λ b. AreOtherEnds ours b.ends) (sym c.self.view_is) c.requires.1.1.1.others) c.meet.ensures.ends in (
       stocked_told inside.holds.supplies.items inside.holds.drain inside.ends c.meet.new.other told c.self.invariant.0,
       c.self.invariant.1,
       c.self.invariant.2,

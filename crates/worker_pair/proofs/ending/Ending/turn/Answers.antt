@@ -1,7 +1,7 @@
 use Rattle.std.proofs.Common.{sym, subst}
 use Rattle.butler.specs.Serving.{AreStocked}
 use Rattle.piece_item.specs.declared.butler_ends.ButlerEnds.{ButlerEnds}
-use Rattle.process_cycle.specs.Ends.{AreOtherEnds, EndsMeet}
+use Rattle.process_cycle.specs.Ends.{EndsMeet, MayMeet}
 use Rattle.worker_pair.proofs.MetLemmas.{resumes}
 use Rattle.worker_pair.proofs.TurnLemmas as turns
 use Rattle.worker_pair.proofs.LessLemmas.{turns_turned}
@@ -12,7 +12,7 @@ use Rattle.worker_pair.proofs.ending.Ending.turn.Goals as goal
 pub meet_ends-requires : goal.meet_ends-requires
 meet_ends-requires g c = let self = c.args.self in let b = c.turn-answer.new.self in let a = c.turn-answer.ensures in let M = g.M.Media.outside in
     let turn = turns.is_turned M g.at self c.turn-answer.result b a.serving a.receives a.takes a.sends a.stays_true a.answer a.fails a.rest in
-    subst (AreOtherEnds self.ends) (sym c.rest-resting.ensures.ends) (turns.others_turned M g.at self c.turn-answer.result b c.requires.1 turn)
+    subst (MayMeet self.ends) (sym c.rest-resting.ensures.ends) (turns.may_meet_turned M g.at self c.turn-answer.result b c.requires.1 turn)
 
 pub resume-butler-requires-clause-stocked : goal.resume-butler-requires-clause-stocked
 resume-butler-requires-clause-stocked g c = let self = c.args.self in let b = c.turn-answer.new.self in let a = c.turn-answer.ensures in let M = g.M.Media.outside in let ours = c.meet_ends.new.ours in

@@ -1,7 +1,7 @@
 use Rattle.std.proofs.Common.{◌≡◌, refl, sym, ap, subst, ◌∙◌}
 use Rattle.butler.specs.ButlerState.{resumed}
 use Rattle.butler.specs.Serving.{AreStocked}
-use Rattle.process_cycle.specs.Ends.{AreOtherEnds, EndsMeet, Meet, shut_ends}
+use Rattle.process_cycle.specs.Ends.{EndsMeet, MayMeet, Meet, shut_ends}
 use Rattle.worker_pair.specs.declared.ending.Stopped.{Stopped}
 use Rattle.worker_pair.specs.Closes.{Closes, ClosesAsMachine}
 use Rattle.worker_pair.specs.Runs.{Serves}
@@ -12,8 +12,8 @@ use Rattle.worker_pair.proofs.pair.Pair.close.Goals as goal
 -- src/ending.rt
 pub meet_ends-requires : goal.meet_ends-requires
 meet_ends-requires g c = let self = c.args.self in
-    subst (λ e. AreOtherEnds e c.rest-resting.result.1) (sym c.parts-input.ensures.ends) (subst (λ e. AreOtherEnds (shut_ends self.process.ends) e) (sym c.rest-resting.ensures.ends)
-    (closing.others_shut self.process.ends self.butler.ends c.requires.1.1.1.serves.others))
+    subst (λ e. MayMeet e c.rest-resting.result.1) (sym c.parts-input.ensures.ends) (subst (λ e. MayMeet (shut_ends self.process.ends) e) (sym c.rest-resting.ensures.ends)
+    (closing.may_meet_shut self.process.ends self.butler.ends c.requires.1.1.1.serves.others c.requires.1.1.1.serves.met))
 
 pub resume-requires-clause-stocked : goal.resume-requires-clause-stocked
 resume-requires-clause-stocked g c = let self = c.args.self in let ours = c.meet_ends.new.ours in let theirs = c.meet_ends.new.theirs in let r = c.rest-resting.result.0 in let was = c.rest-resting.ensures.ends in

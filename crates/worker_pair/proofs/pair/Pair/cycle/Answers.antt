@@ -19,7 +19,7 @@ cycle-answer-requires g c κs within = let may = c.requires.1.1.1 in let was = m
 pub meet-requires : goal.meet-requires
 meet-requires g c κs within = let M = g.M.Media.outside in let I = g.I.Source.outside in let W = g.W.Sink.outside in let self = c.args.self.now in let may = c.requires.1.1.1 in
     let q = c.cycle-answer.new.self in let cycle = c.cycle-answer.ensures in let answer = c.cycle-answer.result in
-    (within.0, (within.1.0, (within.1.1, answers.others_either M I W g.at self may q answer cycle.made cycle.fault)))
+    (within.0, (within.1.0, (within.1.1, answers.may_meet_either M I W g.at self may q answer cycle.made cycle.fault)))
 
 pub returns-clause-runs : goal.returns-clause-runs
 returns-clause-runs g c = let M = g.M.Media.outside in let I = g.I.Source.outside in let W = g.W.Sink.outside in let self = c.args.self.now in let may = c.requires.1.1.1 in

@@ -20,7 +20,7 @@ meet-requires g c κs within = let look = c.gather-answer.ensures in (
     within.1.0,
     (
       within.1.1,
-      left.others_looked g.M.Media.outside g.I.Source.outside g.W.Sink.outside g.at c.args.self.now c.requires.1.1.1.0
+      left.may_meet_looked g.M.Media.outside g.I.Source.outside g.W.Sink.outside g.at c.args.self.now c.requires.1.1.1.0
           c.gather-answer.new.self look.keeps look.looks look.playing,
     ),
   ),

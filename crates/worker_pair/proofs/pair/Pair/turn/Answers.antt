@@ -8,7 +8,7 @@ use Rattle.worker_pair.proofs.pair.Pair.turn.Goals as goal
 pub meet-requires : goal.meet-requires
 meet-requires g c κs within = let self = c.args.self.now in let e = rings_of self in let b = c.turn-answer.new.self in let a = c.turn-answer.ensures in let M = g.M.Media.outside in
     let turn = turns.is_turned M g.at e c.turn-answer.result b a.serving a.receives a.takes a.sends a.stays_true a.answer a.fails a.rest in
-    (within.0, (within.1.0, (within.1.1, turns.others_turned M g.at e c.turn-answer.result b c.requires.1.1.1.serves turn)))
+    (within.0, (within.1.0, (within.1.1, turns.may_meet_turned M g.at e c.turn-answer.result b c.requires.1.1.1.serves turn)))
 
 pub returns-clause-rests : goal.returns-clause-rests
 returns-clause-rests g c = let self = c.args.self.now in let e = rings_of self in let b = c.turn-answer.new.self in let a = c.turn-answer.ensures in let M = g.M.Media.outside in let ours = c.meet.new.process.ends in
