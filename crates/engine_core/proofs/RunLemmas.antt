@@ -22,7 +22,7 @@ use Rattle.run_world.specs.declared.opened.Script.{Script}
 use Rattle.engine_core.specs.Beginning.{MayRun, control_of, course_of, started_of}
 use Rattle.engine_core.specs.Finished.{FaultsAreCounted, LeavesRings, SendsGenuine, ended_of, finished_of}
 use Rattle.engine_core.specs.Lines.{GoesByItsLines}
-use Rattle.engine_core.specs.Mastered.{GetsAFront, GetsTheMaster, MakesItsCycles, ReadsItsInput}
+use Rattle.engine_core.specs.Mastered.{GetsAFront, GetsTheMaster, MakesItsCycles, ReadsItsInput, WritesTheMaster}
 use Rattle.engine_core.specs.CutOff.{IsCutAtHead, IsCutInCycle}
 use Rattle.engine_core.specs.Played.{IsPlayed}
 use Rattle.engine_core.specs.Started.{now_of}
@@ -162,11 +162,14 @@ module _ {M I C W O : Type 0} (media : MediaOutside M) (inputs : SourceOutside I
   pub genuine_of : media.tells → (f : Finished M I C W O) → Played f → SendsGenuine media o f
   genuine_of tells f x = subst (SendsGenuine media o) (sym x.is) (x.genuine tells)
 
-  pub master_of : TheMasterIsItsBlocks → media.tells → sinks.tells → (f : Finished M I C W O) → Played f → GetsTheMaster media sinks o f
-  master_of law tells told f x = subst (GetsTheMaster media sinks o) (sym x.is) (gets_the_master f x law tells told)
+  whole_of : TheMasterIsItsBlocks → media.tells → sinks.tells → (f : Finished M I C W O) → Played f → GetsTheMaster media sinks o f
+  whole_of law tells told f x = subst (GetsTheMaster media sinks o) (sym x.is) (gets_the_master f x law tells told)
 
-  pub front_of : media.tells → sinks.tells → (f : Finished M I C W O) → Played f → GetsAFront media sinks o f
+  front_of : media.tells → sinks.tells → (f : Finished M I C W O) → Played f → GetsAFront media sinks o f
   front_of tells told f x = subst (GetsAFront media sinks o) (sym x.is) (λ bad. front.is_cut_off media inputs source sinks sink on f x tells told bad)
+
+  pub master_of : TheMasterIsItsBlocks → media.tells → sinks.tells → (f : Finished M I C W O) → Played f → WritesTheMaster media sinks o f
+  master_of law tells told f x = record { whole = whole_of law tells told f x; front = front_of tells told f x }
 
   pub cycles_of : (f : Finished M I C W O) → Played f → MakesItsCycles o f
   cycles_of f x = subst (MakesItsCycles o) (sym x.is) (makes_its_cycles f x)

@@ -49,6 +49,11 @@ module _ {M I C W O : Type 0} where
   GetsAFront media sinks o f = f.faults.master ≡ true →
       IsCutOff f.faults.input (sinks.held o.world.master) (sinks.held f.world.master) o.edition.session f.edits.items (samples_opened media o f) o.cycles (journal_of f)
 
+  -- It is whole or cut off, as its writes went.
+  pub record WritesTheMaster (media : MediaOutside M) (sinks : SinkOutside W) (o : Opened M I C W O) (f : Finished M I C W O) : Type 0 where
+    pub whole : GetsTheMaster media sinks o f
+    pub front : GetsAFront media sinks o f
+
   -- **All cycles were made that were asked**; fewer only after a quit, or where the input or the master has failed.
   pub record MakesItsCycles (o : Opened M I C W O) (f : Finished M I C W O) : Type 0 where
     pub most : length (journal_of f) ≤ o.cycles

@@ -5,7 +5,7 @@ ghost use Rattle.engine_core.specs.Takes.{LeavesTakes};
 ghost use Rattle.engine_core.specs.Beginning.{MayRun, course_of, started_of};
 ghost use Rattle.engine_core.specs.Finished.{FaultsAreCounted, LeavesRings, SendsGenuine, ended_of, finished_of};
 ghost use Rattle.engine_core.specs.Lines.{GoesByItsLines};
-ghost use Rattle.engine_core.specs.Mastered.{GetsAFront, GetsTheMaster, MakesItsCycles, ReadsItsInput};
+ghost use Rattle.engine_core.specs.Mastered.{MakesItsCycles, ReadsItsInput, WritesTheMaster};
 ghost use Rattle.engine_core.specs.Played.{IsPlayed};
 
 use crate::beginning::begin;
@@ -91,9 +91,7 @@ pub fn run_events<M: Media, I: Source, C: Source, W: Sink, O: Sink>(
     ensures rings { IfOk result (LeavesRings o) }
     ensures genuine { M.outside.tells → IfOk result (SendsGenuine M.outside o) }
     ensures master { M.outside.tells → W.outside.tells
-        → IfOk result (GetsTheMaster M.outside W.outside o) }
-    ensures front { M.outside.tells → W.outside.tells
-        → IfOk result (GetsAFront M.outside W.outside o) }
+        → IfOk result (WritesTheMaster M.outside W.outside o) }
     ensures cycles { IfOk result (MakesItsCycles o) }
     ensures input { IfOk result (ReadsItsInput I.outside
         (started_of M.outside I.outside W.outside o)) }

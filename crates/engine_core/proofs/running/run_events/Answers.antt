@@ -2,7 +2,7 @@ use Rattle.engine_core.specs.Takes.{LeavesTakes}
 use Rattle.engine_core.specs.Beginning.{started_of}
 use Rattle.engine_core.specs.Finished.{FaultsAreCounted, LeavesRings, SendsGenuine, ended_of}
 use Rattle.engine_core.specs.Lines.{GoesByItsLines}
-use Rattle.engine_core.specs.Mastered.{GetsAFront, GetsTheMaster, MakesItsCycles, ReadsItsInput}
+use Rattle.engine_core.specs.Mastered.{MakesItsCycles, ReadsItsInput, WritesTheMaster}
 use Rattle.engine_core.proofs.RunLemmas as ends
 use Rattle.engine_core.proofs.running.run_events.Goals as goal
 
@@ -17,10 +17,7 @@ pub returns-clause-genuine : goal.returns-clause-genuine
 returns-clause-genuine g c = λ tells. ends.if_played (ends.Played g.M.Media.outside g.I.Source.outside g.C.Source.outside g.W.Sink.outside g.O.Sink.outside c.args.o c.requires c.args.events.now) (SendsGenuine g.M.Media.outside c.args.o) (ends.genuine_of g.M.Media.outside g.I.Source.outside g.C.Source.outside g.W.Sink.outside g.O.Sink.outside c.args.o c.requires c.args.events.now tells) c.play.result c.play.ensures.played
 
 pub returns-clause-master : goal.returns-clause-master
-returns-clause-master g c = λ tells told. ends.if_played (ends.Played g.M.Media.outside g.I.Source.outside g.C.Source.outside g.W.Sink.outside g.O.Sink.outside c.args.o c.requires c.args.events.now) (GetsTheMaster g.M.Media.outside g.W.Sink.outside c.args.o) (ends.master_of g.M.Media.outside g.I.Source.outside g.C.Source.outside g.W.Sink.outside g.O.Sink.outside c.args.o c.requires c.args.events.now c.the_master_is_its_blocks.ensures tells told) c.play.result c.play.ensures.played
-
-pub returns-clause-front : goal.returns-clause-front
-returns-clause-front g c = λ tells told. ends.if_played (ends.Played g.M.Media.outside g.I.Source.outside g.C.Source.outside g.W.Sink.outside g.O.Sink.outside c.args.o c.requires c.args.events.now) (GetsAFront g.M.Media.outside g.W.Sink.outside c.args.o) (ends.front_of g.M.Media.outside g.I.Source.outside g.C.Source.outside g.W.Sink.outside g.O.Sink.outside c.args.o c.requires c.args.events.now tells told) c.play.result c.play.ensures.played
+returns-clause-master g c = λ tells told. ends.if_played (ends.Played g.M.Media.outside g.I.Source.outside g.C.Source.outside g.W.Sink.outside g.O.Sink.outside c.args.o c.requires c.args.events.now) (WritesTheMaster g.M.Media.outside g.W.Sink.outside c.args.o) (ends.master_of g.M.Media.outside g.I.Source.outside g.C.Source.outside g.W.Sink.outside g.O.Sink.outside c.args.o c.requires c.args.events.now c.the_master_is_its_blocks.ensures tells told) c.play.result c.play.ensures.played
 
 pub returns-clause-cycles : goal.returns-clause-cycles
 returns-clause-cycles g c = ends.if_played (ends.Played g.M.Media.outside g.I.Source.outside g.C.Source.outside g.W.Sink.outside g.O.Sink.outside c.args.o c.requires c.args.events.now) (MakesItsCycles c.args.o) (ends.cycles_of g.M.Media.outside g.I.Source.outside g.C.Source.outside g.W.Sink.outside g.O.Sink.outside c.args.o c.requires c.args.events.now) c.play.result c.play.ensures.played
