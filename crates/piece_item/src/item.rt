@@ -1,14 +1,14 @@
 //! An item of a playback ring: its kind, and the samples of one block, which are filled in place.
-ghost use Rattle.std.specs.Prelude.{◌≡◌, IfOk};
+ghost use Rattle.std.specs.Prelude.{◌≡◌, length, IfOk};
 ghost use Rattle.std.specs.Borrow.{sem, Lends, Array, i32};
 ghost use Rattle.piece_item.specs.Blanks.{blank_item, filled};
+ghost use Rattle.piece_item.specs.Silence.{zeros};
 ghost use Rattle.piece_item.specs.contracts.item.Item.{the_row};
 
 use crate::kind::Kind;
-use crate::silence::silence;
+use crate::sample_block::SampleBlock;
 use disk_ring::Roomy;
 use ses_io::NoMemory;
-use session_model::Samples;
 use std::alloc::Global;
 
 /// A box of a playback ring. It has one room for good: the number of its samples.
@@ -17,7 +17,7 @@ pub struct Item {
     /// What it is.
     pub kind: Kind,
     /// One block of the track, frame by frame, channels side by side; what they are counts for a piece alone.
-    pub samples: Samples,
+    pub samples: SampleBlock,
 }
 
 impl Roomy for Item {
@@ -37,7 +37,7 @@ impl Item {
     {
         let item = Item {
             kind: Kind::Blank,
-            samples: silence(alloc, samples)?,
+            samples: SampleBlock::new(alloc, samples)?,
         };
         Ok(Box::new(alloc, item)?)
     }
@@ -50,5 +50,16 @@ impl Item {
     {
         self.kind = kind;
         self.samples.as_mut_slice()
+    }
+
+    /// Makes it an item of this kind whose samples are 0. Its room stays.
+    pub fn hush_as(&mut self, kind: Kind)
+        ensures { self.new ≡ record {
+          kind = kind;
+          samples = record self.old.samples { items = zeros (length self.old.samples.items) };
+        } }
+    {
+        self.kind = kind;
+        self.samples.hush();
     }
 }

@@ -8,6 +8,7 @@ mod ack;
 mod butler_ends;
 mod item;
 mod kind;
+mod sample_block;
 mod silence;
 mod take_block;
 
@@ -15,4 +16,5 @@ pub use ack::Ack;
 pub use butler_ends::ButlerEnds;
 pub use item::Item;
 pub use kind::Kind;
+pub use sample_block::SampleBlock;
 pub use take_block::TakeBlock;

@@ -1,6 +1,6 @@
 //! Samples of nothing.
 ghost use Rattle.std.specs.Prelude.{◌≡◌, IfOk};
-ghost use Rattle.piece_item.specs.Blanks.{silence_of};
+ghost use Rattle.piece_item.specs.Silence.{silence_of};
 
 use ses_io::NoMemory;
 use session_model::Samples;

@@ -1,6 +1,8 @@
 //! The pieces that are played next are put on the desk of the master.
-ghost use Rattle.std.specs.Prelude.{◌≡◌, ◌<◌, length, map};
+ghost use Rattle.std.specs.Prelude.{◌≡◌, ◌*◌, ◌<◌, length, map, slice_set};
 ghost use Rattle.ses_io.specs.Outside.{Writes};
+ghost use Rattle.session_model.specs.declared.session.Session.{Session as Opening};
+ghost use Rattle.session_model.specs.Formed.{channels_at};
 ghost use Rattle.edition_log.specs.EditionState.{IsEditionOf};
 ghost use Rattle.track_playback.specs.Heard.{AreHeard, IsAt};
 ghost use Rattle.track_playback.specs.SpareBoxes.{received_items};
@@ -12,8 +14,28 @@ ghost use Rattle.process_cycle.specs.Heard.{Listened, heard_bytes};
 use cycle_journal::State;
 use edition_log::Edition;
 use master_blocks::MasterBlocks;
+use piece_item::SampleBlock;
 use ses_io::{Failed, Sink};
 use track_playback::{PlayPosition, TrackPlayback, heard_block};
+
+// Puts a block of a track. Silence isn't copied.
+fn put_block<W: Sink>(block: &SampleBlock, track: u32, master: &mut MasterBlocks<W>)
+    ghost s: { Opening }
+    requires of { IsMasterOf s master.old }
+    requires track { track < length s.tracks.items }
+    requires block { length block.now.items ≡ s.block * channels_at s track }
+    ensures put { master.new ≡ record master.old {
+      desk = record master.old.desk
+          { inputs = slice_set master.old.desk.inputs track block.now.items };
+    } }
+    ensures of { IsMasterOf s master.new }
+{
+    if block.is_silent() {
+        master.quiet(track);
+    } else {
+        master.put(track, block.as_slice());
+    }
+}
 
 // Puts the block of each track that is played at a position, and silence where no piece of it was
 // received.
@@ -31,7 +53,7 @@ fn put_blocks<W: Sink>(playbacks: &[TrackPlayback], at: PlayPosition, master: &m
     for t in 0..playbacks.len() {
         let track = t as u32;
         match heard_block(playbacks, track, at) {
-            Some(samples) => master.put(track, samples),
+            Some(block) => put_block(block, track, master),
             None => master.quiet(track),
         }
     }

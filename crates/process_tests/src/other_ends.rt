@@ -1,6 +1,6 @@
 //! The other ends of the rings of a session of one track: where its items are put, and where blocks of takes and
 //! acknowledgements arrive.
-ghost use Rattle.std.specs.Prelude.{◌≡◌, length, IfOk, IfSome};
+ghost use Rattle.std.specs.Prelude.{◌≡◌, IfSome};
 ghost use Rattle.session_model.specs.Valid.{IsValid};
 ghost use Rattle.process_cycle.specs.Ends.{AreNew};
 ghost use Rattle.run_rings.specs.Rings.{AreNewRunEnds};
@@ -10,7 +10,7 @@ use piece_item::{Ack, ButlerEnds, Item, Kind, TakeBlock};
 use process_cycle::ProcessEnds;
 use run_rings::{RunEnds, new_ends_fit};
 use ses_io::NoMemory;
-use session_model::{Samples, Session};
+use session_model::Session;
 use std::alloc::Global;
 use std::marker::Model;
 
@@ -34,18 +34,6 @@ impl Model for OtherEnds {
 
     ghost invariant = { λ o. (o.items.room ≡ o.samples) × (o.items.closed ≡ false)
         × (o.takes.room ≡ o.samples) × (o.to_butler.room ≡ 0) × (o.to_control.room ≡ 0) };
-}
-
-// A list of these samples, which is full.
-fn listed(alloc: Global, samples: &[i32], count: u32) -> Result<Samples, NoMemory>
-    requires { length samples.now ≡ count }
-    ensures { IfOk result (λ l. length l.items ≡ count) }
-{
-    let mut list = Samples::new(alloc, count)?;
-    for at in 0..samples.len() {
-        list.push(samples[at]);
-    }
-    Ok(list)
 }
 
 // The next acknowledgement.
@@ -103,8 +91,8 @@ impl OtherEnds {
         if samples.len() != self.samples as usize {
             return Ok(false);
         }
-        let samples = listed(alloc, samples, self.samples)?;
-        let item = Box::new(alloc, Item { kind, samples })?;
+        let mut item = Item::blank(alloc, self.samples)?;
+        item.fill_as(kind).copy_from_slice(samples);
         Ok(self.items.put(item).is_ok())
     }
 

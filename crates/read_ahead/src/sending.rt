@@ -1,8 +1,9 @@
 //! One item of a track: it is made in the spare box, and put into the track's ring. Where the ring is full the box is kept
 //! as it was made.
-ghost use Rattle.std.specs.Prelude.{◌≡◌, ◌<◌, ◌≤◌, ◌*◌, true, false, length, OnOk};
+ghost use Rattle.std.specs.Prelude.{◌≡◌, ◌↔◌, ◌<◌, ◌≤◌, ◌*◌, IsTrue, true, false, [], length, OnOk};
 ghost use Rattle.ses_io.specs.Outside.{OnlyReads, ReadCause};
 ghost use Rattle.session_model.specs.Valid.{IsValid};
+ghost use Rattle.session_model.specs.Views.{track_regions};
 ghost use Rattle.audio_source.specs.Opened.{IsListed};
 ghost use Rattle.audio_source.specs.Told.{source_sound};
 ghost use Rattle.audio_source.specs.Lines.{HoldsAsRead};
@@ -21,6 +22,7 @@ use disk_ring::RingIn;
 use edition_log::Edition;
 use piece_item::{Item, Kind};
 use ses_io::Media;
+use session_model::Session;
 use track_render::render;
 
 // The first frame of a block.
@@ -33,6 +35,14 @@ fn first_frame(block: u32, seq: u32) -> u64
     u64::from(seq) * u64::from(block)
 }
 
+// Whether a track has no region, so that it says nothing anywhere.
+fn has_no_region(s: &Session, track: u32) -> bool
+    requires { track < length s.now.tracks.items }
+    ensures { IsTrue result ↔ (track_regions s.now track ≡ []) }
+{
+    s.tracks.as_slice()[track as usize].list.is_empty()
+}
+
 // Makes the box an item of this kind of a track: a piece has its block of samples.
 fn fill<M: Media>(
     reader: &mut SourceReader<M>,
@@ -42,7 +52,8 @@ fn fill<M: Media>(
     item: &mut Item,
 ) -> Result<(), ReadFault>
     requires valid { IsValid e.now.session }
-    requires listed { IsListed e.now.session.rate e.now.session.sources.items reader.old.sources.opened }
+    requires listed { IsListed e.now.session.rate e.now.session.sources.items
+        reader.old.sources.opened }
     requires scratch { reader.old.room ≡ e.now.session.block }
     requires track { track < length e.now.session.tracks.items }
     requires near { IsInReach track (kind_of kind) }
@@ -56,12 +67,17 @@ fn fill<M: Media>(
     ensures read { IsReadOn M.outside reader.old.media reader.new.media
         reader.old.sources reader.new.sources result }
 {
-    let out = item.fill_as(kind);
     let Kind::Piece { seq, .. } = kind else {
+        item.kind = kind;
         return Ok(());
     };
     let session = e.session();
+    if has_no_region(session, track) {
+        item.hush_as(kind);
+        return Ok(());
+    }
     let first = first_frame(session.block, seq);
+    let out = item.fill_as(kind);
     render(
         &mut reader.sources,
         &mut reader.media,
@@ -91,7 +107,8 @@ pub(crate) fn send_next<M: Media>(
         (source_sound (M.outside.files reader.old.media) reader.old.sources.opened)
         pass.now.edition (needs_of (target_of pass.now track))
         supply.old end.old supply.new end.new }
-    ensures answer { HasSent (needs_of (target_of pass.now track)) end.old supply.new end.new result }
+    ensures answer { HasSent (needs_of (target_of pass.now track)) end.old
+        supply.new end.new result }
     ensures stocked { IsStocked (block_room pass.now.edition track) supply.new end.new }
     ensures at_hand { IsAtHand (needs_of (target_of pass.now track)) supply.old
         → reader.new ≡ reader.old }

@@ -1,6 +1,6 @@
 -- A look ends a track's look-up, as the definitions of the engine have it.
 use Rattle.std.proofs.Common.{inl, inr, ℕ, ◌<◌, ◌≤◌, List, [], ◌∷◌, length, ap, ◌∙◌, sym, subst, slice_index_or, arith}
-use Rattle.std.specs.Prelude.{Bool, map, reverse}
+use Rattle.std.specs.Prelude.{map, reverse}
 use Rattle.std.proofs.lemmas.List.{reverse-append}
 use Rattle.std.proofs.lemmas.Option.{get_or_from_slice_get, slice_get_within}
 use Rattle.engine_laws.specs.MadeLaws.{HasLookedUp}
@@ -27,9 +27,9 @@ ends_look_up at a b (Held box) last ends =
 ends_look_up at a b Lent last ends = absurd ends
 
 -- all tracks
-pub all_looked_up : (at : PlayPosition) (a : List (Receiver Item)) (d : List TrackPlayback) (b : List (Receiver Item)) (e : List TrackPlayback) (n : ℕ) (all : Bool)
-    → LookedBelow at a d b e n all → length a ≤ n → n ≤ length d → HaveLookedUp at a b
-all_looked_up at a d b e n all below whole within t x y was is =
+pub all_looked_up : (at : PlayPosition) (a : List (Receiver Item)) (d : List TrackPlayback) (b : List (Receiver Item)) (e : List TrackPlayback) (n : ℕ)
+    → LookedBelow at a d b e n → length a ≤ n → n ≤ length d → HaveLookedUp at a b
+all_looked_up at a d b e n below whole within t x y was is =
     let lt : t < n = omega (arith, slice_get_within a t x was, whole) in
     let k = item_at d t (omega (arith, lt, within)) in
     let looks = below.looked t x k.0 lt in

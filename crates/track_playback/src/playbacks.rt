@@ -8,7 +8,7 @@ ghost use Rattle.session_model.specs.Formed.{channels_at};
 ghost use Rattle.engine_model.specs.Mixed.{newest_samples};
 ghost use Rattle.disk_ring.specs.Receiver.{Receiver};
 ghost use Rattle.piece_item.specs.declared.item.Item.{Item as ItemRecord};
-ghost use Rattle.track_playback.specs.Answers.{AllLook, AllThere, HaveLookedUp, Waits, is_there};
+ghost use Rattle.track_playback.specs.Answers.{AllLook, AllShow, AllThere, HaveLookedUp, IsMissing, Waits};
 ghost use Rattle.track_playback.specs.Heard.{AreHeard};
 ghost use Rattle.track_playback.specs.Looks.{Looks};
 ghost use Rattle.track_playback.specs.Played.{AllPlayed, IsNewPlayback, IsPlayed, KnowsTheEnds};
@@ -17,22 +17,36 @@ ghost use Rattle.track_playback.specs.SpareBoxes.{received_items};
 use crate::play_position::PlayPosition;
 use crate::playback::{SpareBox, TrackPlayback};
 use disk_ring::RingOut;
-use piece_item::Item;
+use piece_item::{Item, SampleBlock};
 use play_window::Window;
 use ses_io::NoMemory;
 use session_model::Session;
 use std::alloc::Global;
 
-// One look of a track, and whether the piece that is played next was received by then.
-fn look_at(ring: &mut RingOut<Item>, playback: &mut TrackPlayback, at: PlayPosition) -> bool
-    requires some { 0 < at.depth }
+// One look of a track.
+fn look_at(ring: &mut RingOut<Item>, playback: &mut TrackPlayback, at: PlayPosition)
     requires played { (samples : ℕ) × IsPlayed at samples ring.old playback.old }
     requires closed { playback.old.closed ≡ ring.old.ended }
-    ensures looks { Looks at ring.old playback.old ring.new playback.new }
-    ensures there { result ≡ is_there at ring.new }
+    ensures { Looks at ring.old playback.old ring.new playback.new }
 {
     playback.look(ring, at);
-    playback.is_there(at)
+}
+
+// Whether each track has the piece that is played next. Tracks are served in their order, so the
+// last one is asked first.
+fn all_there(plays: &[RingOut<Item>], playbacks: &[TrackPlayback], at: PlayPosition) -> bool
+    requires { AllShow at plays.now playbacks.now }
+    ensures there { result ≡ true → AllThere at plays.now }
+    ensures missing { result ≡ false → IsMissing at plays.now }
+{
+    let mut left = plays.len();
+    while left > 0 {
+        left -= 1;
+        if !playbacks[left].is_there(at) {
+            return false;
+        }
+    }
+    true
 }
 
 /// One look of each track, and whether each has the piece that is played next. It takes no memory,
@@ -50,11 +64,10 @@ pub fn look_at_all(
     ensures there { result ≡ true → AllThere at plays.new }
     ensures waits { result ≡ false → Waits at plays.old plays.new playbacks.new }
 {
-    let mut all = true;
     for t in 0..playbacks.len() {
-        all = look_at(&mut plays[t], &mut playbacks[t], at) && all;
+        look_at(&mut plays[t], &mut playbacks[t], at);
     }
-    all
+    all_there(plays, playbacks, at)
 }
 
 // The playback of a track that nothing was received of.
@@ -97,18 +110,22 @@ pub fn any_closed(playbacks: &[TrackPlayback]) -> bool
 }
 
 /// The block that is played next of a track, where a piece of it was received. Tracks count from 0.
-pub fn heard_block(playbacks: &[TrackPlayback], track: u32, at: PlayPosition) -> Option<&[i32]>
+pub fn heard_block(
+    playbacks: &[TrackPlayback],
+    track: u32,
+    at: PlayPosition,
+) -> Option<&SampleBlock>
     ghost plays: { List (Receiver ItemRecord) }
     requires heard { AreHeard at plays playbacks.now }
     requires track { track < length playbacks.now }
     ensures newest { (r : Receiver ItemRecord) → slice_get plays track ≡ Some r
-        → option_map_or (λ block. block.now) result []
+        → option_map_or (λ block. block.now.items) result []
         ≡ newest_samples at.generation at.next (received_items r) }
     ensures whole { (r : Receiver ItemRecord) → slice_get plays track ≡ Some r
-        → IfSome result (λ block. length block.now ≡ r.room) }
+        → IfSome result (λ block. length block.now.items ≡ r.room) }
 {
     let piece = playbacks[track as usize]
         .window
         .piece(at.generation, at.next)?;
-    Some(piece.samples.as_slice())
+    Some(&piece.samples)
 }

@@ -4,8 +4,8 @@ use Rattle.process_cycle.proofs.putting.put_blocks.Given as goal
 abbrev pub ghost-heard_block : goal.ghost-heard_block
 ghost-heard_block g a = g.on.plays
 
-abbrev pub ghost-put : goal.ghost-put
-ghost-put g a = g.on.session
+abbrev pub ghost-put_block : goal.ghost-put_block
+ghost-put_block g a = g.on.session
 
 abbrev pub ghost-quiet : goal.ghost-quiet
 ghost-quiet g a = g.on.session
