@@ -1,4 +1,4 @@
-//! Values from outside for the layers at the ground: numbers, rings, boxes, the outside and sources.
+//! Values from outside for the layers at the ground: numbers, rings, boxes and the outside.
 #![tactic(auto)]
 
 #[cfg(test)]
@@ -9,7 +9,5 @@ mod outside;
 mod playlists;
 #[cfg(test)]
 mod rings;
-#[cfg(test)]
-mod sources;
 #[cfg(test)]
 mod units;

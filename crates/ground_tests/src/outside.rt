@@ -48,10 +48,10 @@ fn does_all<M: Media>(media: &mut M, calls: &[Call]) -> bool {
     true
 }
 
-/// Puts a file of these parts into a media.
-pub(crate) fn put(alloc: Global, media: &mut MemMedia, name: &str, parts: &[&[u8]]) -> bool {
-    match parts.concat(alloc) {
-        Ok(bytes) => media.put(name, bytes).is_ok(),
-        Err(_) => false,
-    }
+/// Puts a file `a.wav` of these bytes into a media.
+fn put(alloc: Global, media: &mut MemMedia, bytes: &[u8]) -> bool {
+    let Ok(bytes) = [bytes].concat(alloc) else {
+        return false;
+    };
+    media.put("a.wav", bytes).is_ok()
 }

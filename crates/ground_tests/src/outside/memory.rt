@@ -134,7 +134,7 @@ fn are_planned(media: &mut MemMedia, faults: &[Fault]) -> bool {
 // Whether all calls are answered as the case says.
 fn is_right(alloc: Global, case: &Case) -> bool {
     let mut media = MemMedia::new(alloc);
-    put(alloc, &mut media, "a.wav", &[&SIXTY])
+    put(alloc, &mut media, &SIXTY)
         && are_planned(&mut media, case.faults)
         && does_all(&mut media, case.answers)
 }

@@ -7,7 +7,6 @@ mod faults;
 mod held;
 mod refused;
 
-use crate::outside::put;
 use audio_source::{OpenRefusal, ReadFault, Sources};
 use ses_io::{FolderMedia, Media, MemMedia};
 use ses_units::Name;
@@ -27,6 +26,14 @@ enum Want {
     Refused(OpenRefusal),
     /// Six samples of the first source from a frame on.
     Heard(u64, [i32; 6]),
+}
+
+/// Puts a file of these parts into a media.
+fn put(alloc: Global, media: &mut MemMedia, name: &str, parts: &[&[u8]]) -> bool {
+    match parts.concat(alloc) {
+        Ok(bytes) => media.put(name, bytes).is_ok(),
+        Err(_) => false,
+    }
 }
 
 fn push(alloc: Global, list: &mut SourceList, file: &str, channels: u16) -> bool {

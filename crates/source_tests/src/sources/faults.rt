@@ -2,8 +2,7 @@
 ghost use Rattle.std.specs.Prelude.{◌≡◌, ◌%◌, ◌<◌, length, slice_index};
 
 use super::depths::{LIST, MONO_8, STRAY};
-use super::{is_heard, open, read};
-use crate::outside::put;
+use super::{is_heard, open, put, read};
 use audio_source::{OpenRefusal, ReadFault, SourceView, Sources};
 use ses_io::{Failed, MemMedia};
 use session_model::Frames;

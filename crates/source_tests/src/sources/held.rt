@@ -1,7 +1,6 @@
 //! Lines that are held: they are heard while reads fail, and stay after a fault of another source.
 use super::depths::{LIST, MONO_8, MONO_16, STRAY};
-use super::{is_heard, open, read};
-use crate::outside::put;
+use super::{is_heard, open, put, read};
 use audio_source::{ReadFault, Sources};
 use ses_io::MemMedia;
 use std::alloc::Global;
