@@ -1,8 +1,10 @@
 -- What contracts see of held lines, by the lines that the sources keep.
 use Rattle.std.proofs.Common.{◌≡◌, ℕ, ◌*◌, refl, ap, ◌∙◌, sym, subst, List, [], ◌∷◌, map, take}
-use Rattle.std.specs.Prelude.{ℤ, slice_index, All, Result, Ok, Err, OnErr}
+use Rattle.std.specs.Prelude.{ℤ, slice_index, All, Result, Ok, Err}
+use Rattle.std.specs.Result.{IsErr}
 use Rattle.std.specs.Map.{keys_of}
 use Rattle.std.specs.Option.{option_map_or}
+use Rattle.std.proofs.lemmas.Bool.{true≢false}
 use Rattle.std.proofs.lemmas.List.Elements.{All-map, All-weaker, All-nil, All-cons, All-head, All-tail}
 use Rattle.ses_io.specs.Files.{Files}
 use Rattle.session_model.specs.Frames.{interleaved}
@@ -10,7 +12,7 @@ use Rattle.audio_source.specs.declared.entry.Entry.{Entry}
 use Rattle.audio_source.specs.declared.line.LineName.{LineName}
 use Rattle.audio_source.specs.Opened.{OpenedSource, channels_of}
 use Rattle.audio_source.specs.Told.{source_sound}
-use Rattle.audio_source.specs.Lines.{HeldLine, IsAsRead, HoldsAsRead, names_of, asked_in, asked_of, line_name}
+use Rattle.audio_source.specs.Lines.{HeldLine, IsAsRead, HoldsAsRead, HasAsked, IsFaultAt, names_of, asked_in, asked_of, line_name}
 use Rattle.audio_source.specs.Slots.{IsLineOf, AreLinesOf}
 use Rattle.audio_source.specs.Held.{held_line}
 use Rattle.audio_source.proofs.SourceLaws.{IsEntryAt, entry_there, entry_channels, entry_sound}
@@ -53,6 +55,7 @@ module _ (files : Files) (entries : List Entry) (opened : List OpenedSource) (s 
 pub all_held : (files : Files) (opened : List OpenedSource) (held : List (LineName × List ℤ)) → All (λ l. IsAsRead files opened (held_line opened l)) held → All (IsAsRead files opened) (map (held_line opened) held)
 all_held files opened held all = All-map (IsAsRead files opened) (held_line opened) held all
 
-pub on_err : {T E : Type 0} (X : Type 0) (r : Result T E) → X → OnErr r X
-on_err X (Ok a) x = tt
-on_err X (Err e) x = x
+-- a fault, as the contract has it
+pub is_fault : {T E : Type 0} (lines old new : List LineName) (r : Result T E) → IsErr r → IsFaultAt lines old new → HasAsked lines old r new
+is_fault lines old new (Ok a) err at = absurd (true≢false (sym err))
+is_fault lines old new (Err e) err at = at

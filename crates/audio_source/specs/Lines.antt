@@ -1,5 +1,5 @@
 -- Lines of 4,096 frames that are held: which, in which order, and that they are those of the files.
-use Rattle.std.specs.Prelude.{◌≡◌, ℕ, ◌+◌, ◌-◌, ◌*◌, ◌/◌, ◌%◌, min, ◌==◌, ◌&&◌, nat_lt, ℤ, Bool, false, if◌then◌else◌, List, [], ◌∷◌, ◌++◌, map, take, slice_get, slice_index, All}
+use Rattle.std.specs.Prelude.{◌≡◌, ℕ, ◌+◌, ◌-◌, ◌*◌, ◌/◌, ◌%◌, min, ◌==◌, ◌&&◌, nat_lt, ℤ, Bool, false, if◌then◌else◌, List, [], ◌∷◌, ◌++◌, map, take, slice_get, slice_index, All, Result, Ok, Err}
 use Rattle.std.specs.List.{list_any}
 use Rattle.std.specs.Option.{option_map_or}
 use Rattle.ses_io.specs.Files.{Files}
@@ -79,3 +79,8 @@ pub record IsFaultAt (lines old new : List LineName) : Type 0 where
   pub asked : lines ≡ before ++ line ∷ rest
   pub missed : is_held line new ≡ false
   pub kept : new ≡ after_asking before old
+
+-- What a call leaves of the lines: at Ok each was asked in its turn, and after a fault those before one that wasn't held.
+abbrev pub HasAsked : {T E : Type 0} → List LineName → List LineName → Result T E → List LineName → Type 0
+HasAsked lines old (Ok done) new = new ≡ after_asking lines old
+HasAsked lines old (Err fault) new = IsFaultAt lines old new

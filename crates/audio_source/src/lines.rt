@@ -38,7 +38,8 @@ impl Model for Lines {
 
     ghost Value = { LineStore };
 
-    ghost view = { λ l. line_store l.room (lines_in l.room l.samples.items (used l.slots.entries)) };
+    ghost view = { λ l. line_store l.room
+        (lines_in l.room l.samples.items (used l.slots.entries)) };
 
     ghost invariant = { λ l. IsStore l.room l.samples.items l.slots.entries };
 }
@@ -130,8 +131,8 @@ fn read_slot<M: Media>(
     requires few { room ≤ 4096 * 65535 }
     requires slot { slot < 64 }
     requires range { All IsSample samples.old }
-    ensures told { M.outside.tells → OnOk result (IsLineOf (M.outside.files media.old) entry.now line
-        (slot_samples room samples.new slot)) }
+    ensures told { M.outside.tells → OnOk result (IsLineOf (M.outside.files media.old) entry.now
+        line (slot_samples room samples.new slot)) }
     ensures others { OnOk result ((j : ℕ) → j ≢ slot
         → slot_samples room samples.new j ≡ slot_samples room samples.old j) }
     ensures range { OnOk result (All IsSample samples.new) }
@@ -171,7 +172,8 @@ impl Lines {
     pub(crate) fn show(&mut self, name: LineName, from: usize, out: &mut [i32]) -> bool
         requires { from + length out.old ≤ self.old.room }
         ensures found { result ≡ is_some (lookup (same_line name) self.old.held) }
-        ensures held { self.new ≡ line_store self.old.room (promoted (same_line name) self.old.held) }
+        ensures held { self.new ≡ line_store self.old.room
+            (promoted (same_line name) self.old.held) }
         ensures out { IfSome (lookup (same_line name) self.old.held)
             (λ samples. out.new ≡ take (length out.old) (drop from samples)) }
         ensures range { result ≡ true → All IsSample out.new }
@@ -197,7 +199,8 @@ impl Lines {
         requires room { 4096 * entry.now.info.channels ≤ self.old.room }
         requires inside { 4096 * name.line ≤ entry.now.info.frames }
         ensures room { self.new.room ≡ self.old.room }
-        ensures read { OnOk result (IsRead name self.old.held self.new.held (λ samples. M.outside.tells
+        ensures read { OnOk result (IsRead name self.old.held self.new.held
+            (λ samples. M.outside.tells
             → IsLineOf (M.outside.files media.old) entry.now name.line samples)) }
         ensures kept { OnErr result (self.new ≡ self.old) }
         ensures only_reads { OnlyReads M.outside media.old media.new }

@@ -31,7 +31,8 @@ pub(crate) fn piece<M: Media>(
     requires within { skip + length out.old ≤ 4096 * entry.now.info.channels }
     requires whole { skip % entry.now.info.channels ≡ 0 }
     ensures told { M.outside.tells → IfSome (lookup (same_line name) lines.old.held)
-        (IsLineOf (M.outside.files media.old) entry.now name.line) → OnOk result (out.new ≡ interleaved
+        (IsLineOf (M.outside.files media.old) entry.now name.line)
+        → OnOk result (out.new ≡ interleaved
         (sound (head_of entry.now.info) (content (M.outside.files media.old) entry.now.file))
         entry.now.info.channels (4096 * name.line + skip / entry.now.info.channels)
         (length out.old)) }

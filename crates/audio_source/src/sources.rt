@@ -6,7 +6,7 @@ ghost use Rattle.session_model.specs.Frames.{interleaved, IsSample};
 ghost use Rattle.audio_source.specs.Answers.{NamesFirst, IsRefusalOf, OpenCause};
 ghost use Rattle.audio_source.specs.Opened.{opened_source, channels_of, IsListedAs, IsListed, IsOpenedAs, IsOpened};
 ghost use Rattle.audio_source.specs.Told.{source_sound};
-ghost use Rattle.audio_source.specs.Lines.{HoldsAsRead, names_of, after_asking, asked_in, IsFaultAt};
+ghost use Rattle.audio_source.specs.Lines.{HoldsAsRead, HasAsked, names_of, asked_in};
 
 use crate::entry::Entry;
 use crate::lines::Lines;
@@ -177,11 +177,8 @@ impl Sources {
             → HoldsAsRead (M.outside.files media.old) self.new }
         ensures range { OnOk result (All IsSample out.new) }
         ensures opened { self.new.opened ≡ self.old.opened }
-        ensures lines { OnOk result (names_of self.new.held ≡ after_asking
-            (asked_in self.old.opened source from (length out.old)) (names_of self.old.held)) }
-        ensures fault { OnErr result (IsFaultAt
-            (asked_in self.old.opened source from (length out.old))
-            (names_of self.old.held) (names_of self.new.held)) }
+        ensures lines { HasAsked (asked_in self.old.opened source from (length out.old))
+            (names_of self.old.held) result (names_of self.new.held) }
         ensures only_reads { OnlyReads M.outside media.old media.new }
         ensures cause { ReadCause M.outside media.old media.new result }
     {

@@ -31,7 +31,13 @@ impl<'a, M: Media> Frames for SourceView<'a, M> {
 
     ghost Rest = { (GName × GName) × (List OpenedSource × (Files × ℕ)) };
 
-    ghost rest = { λ v. ((v.sources.ghost_name, v.media.ghost_name), (v.sources.now.opened, (M.outside.files v.media.now, M.outside.write_faults v.media.now))) };
+    ghost rest = { λ v. (
+      (v.sources.ghost_name, v.media.ghost_name),
+      (
+        v.sources.now.opened,
+        (M.outside.files v.media.now, M.outside.write_faults v.media.now),
+      ),
+    ) };
 
     fn frames(&mut self, source: u32, from: u64, out: &mut [i32]) -> Result<(), Failed> {
         match frames_by_spans(self.sources, self.media, source, from, out) {

@@ -11,8 +11,8 @@ use process_cycle::Process;
 use ses_io::{Media, Sink, Source};
 
 impl<M: Media> Butler<M> {
-    /// Each of its ends and the process's end of the same ring tell each other what they know, where
-    /// something moved since they met. Nothing else changes, and nothing is moved.
+    /// Each of its ends and the process's end of the same ring tell each other what they know, but
+    /// where nothing moved since they met. Nothing else changes, and nothing is moved.
     pub fn meet<I: Source, W: Sink>(&mut self, process: &mut Process<I, W>)
         ghost at: { Playing }
         requires { MayMeet process.old.ends self.old.ends }

@@ -40,8 +40,10 @@ fn finish_takes<M: Media>(media: &mut M, files: TakeFiles, journal: &Journal, fa
     requires of { IsTakingOf run.session files }
     requires room { journal.now.room ≤ 100000 }
     requires counted { IsCounted run.session (seen_entries journal.now.items) }
-    requires flushed { HasFlushed M.outside run (seen_entries journal.now.items) failed files media.old }
-    ensures { FinishesTakes M.outside run (seen_entries journal.now.items) failed media.old result media.new }
+    requires flushed { HasFlushed M.outside run (seen_entries journal.now.items) failed files
+        media.old }
+    ensures { FinishesTakes M.outside run (seen_entries journal.now.items) failed media.old
+        result media.new }
 {
     if failed {
         return true;

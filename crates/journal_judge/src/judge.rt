@@ -111,7 +111,8 @@ impl Judge {
         requires room { self.old.rolled < 100000 }
         requires few { HasRoom (length entry.now.notes.items) self.old.tracks }
         ensures tracks { AreNoted self.old.tracks (seen_entry entry.now).notes self.new.tracks }
-        ensures rolled { self.new.rolled ≡ rolled_after (seen_entry entry.now).state self.old.rolled }
+        ensures rolled { self.new.rolled
+            ≡ rolled_after (seen_entry entry.now).state self.old.rolled }
         ensures same { self.new.entered ≡ self.old.entered }
         ensures floor { self.new.settled ≡ self.old.settled }
     {

@@ -67,7 +67,8 @@ pub fn is_unfaded(long: u64, fade_in: u64, fade_out: u64, first: u64, count: u64
 fn rise(long: u64, shape: Shape, first: u64, out: &mut [u32])
     requires bound { long ≤ 2 ^ 40 }
     requires within { (0 < length out.old) → (first + length out.old ≤ long) }
-    ensures { out.new ≡ map (λ i. shaped (shape_of shape) (unity * i / long)) (range_with_len first (length out.old)) }
+    ensures { out.new ≡ map (λ i. shaped (shape_of shape) (unity * i / long))
+        (range_with_len first (length out.old)) }
 {
     if out.is_empty() {
         return;
@@ -85,7 +86,8 @@ fn fall(long: u64, fade: u64, shape: Shape, first: u64, out: &mut [u32])
     requires bound { long ≤ 2 ^ 40 }
     requires within { first + length out.old ≤ long }
     requires past { (0 < length out.old) → (long ≤ first + fade) }
-    ensures { out.new ≡ map (λ i. shaped (shape_of shape) (unity * (long - 1 - i) / fade)) (range_with_len first (length out.old)) }
+    ensures { out.new ≡ map (λ i. shaped (shape_of shape) (unity * (long - 1 - i) / fade))
+        (range_with_len first (length out.old)) }
 {
     if out.is_empty() {
         return;

@@ -35,7 +35,8 @@ impl Line {
     // The line one frame on.
     pub(crate) fn next(self) -> Line
         requires { IsSmall self }
-        ensures line { (rise lift k : ℕ) → IsOnLine self rise lift k → IsOnLine result rise lift (k + 1) }
+        ensures line { (rise lift k : ℕ) → IsOnLine self rise lift k
+            → IsOnLine result rise lift (k + 1) }
         ensures over { result.over ≡ self.over }
     {
         let value = self.value + self.step;

@@ -35,7 +35,8 @@ pub(crate) fn count_through(points: &[Point], place: u64) -> usize
 impl Piece {
     // The places on which a lane stays at one gain.
     fn flat(since: u64, until: u64, gain: u32) -> Piece
-        ensures piece { (fader : ℕ) (lane : List sound.Point) → IsFlat fader lane since until gain → IsPiece fader lane result }
+        ensures piece { (fader : ℕ) (lane : List sound.Point)
+            → IsFlat fader lane since until gain → IsPiece fader lane result }
         ensures since { result.since ≡ since }
         ensures until { result.until ≡ until }
     {
@@ -53,7 +54,8 @@ impl Piece {
     fn along(p: &Point, q: &Point) -> Piece
         requires rises { p.now.at < q.now.at }
         requires near { q.now.at ≤ 2 ^ 40 }
-        ensures piece { (fader : ℕ) (lane : List sound.Point) → IsLineOf fader lane (point_of p.now) (point_of q.now) → IsPiece fader lane result }
+        ensures piece { (fader : ℕ) (lane : List sound.Point)
+            → IsLineOf fader lane (point_of p.now) (point_of q.now) → IsPiece fader lane result }
         ensures since { result.since ≡ p.now.at }
         ensures until { result.until ≡ q.now.at }
     {

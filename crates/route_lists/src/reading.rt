@@ -94,7 +94,8 @@ impl ListReader {
         requires { self.old.table ≡ w.old.table }
         ensures told { (self.new.told ≡ w.old.edition.edits)
             × (self.new.told_end ≡ w.old.edition.ended) }
-        ensures editions { (self.new.edition ≡ self.old.edition) × (self.new.spare ≡ self.old.spare) }
+        ensures editions { (self.new.edition ≡ self.old.edition)
+            × (self.new.spare ≡ self.old.spare) }
         ensures writer { w.new.edition ≡ w.old.edition }
     {
         let note = w.writer.tell::<Note>();

@@ -34,7 +34,8 @@ pub fn read_full<S: Source>(source: &mut S, buf: &mut [u8]) -> Result<usize, Fai
     ensures all { S.outside.tells
         → IfOk result (λ n. n ≡ min (length buf.new) (length (S.outside.left source.old))) }
     ensures fewer { S.outside.tells
-        → OnErr result (TakesFewer (S.outside.left source.old) (S.outside.left source.new) buf.new) }
+        → OnErr result
+        (TakesFewer (S.outside.left source.old) (S.outside.left source.new) buf.new) }
     ensures none { length buf.old ≡ 0 → source.new ≡ source.old }
     ensures asked { OnErr result (0 < length buf.old) }
     ensures cause { HasCause (S.outside.faults source.old) (S.outside.faults source.new) result }

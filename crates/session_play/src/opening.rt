@@ -24,7 +24,8 @@ pub(crate) fn load<M: Media>(
     ensures loaded { IfOk result (IsLoadedFor M.outside media.old (request_view asked.now)) }
     ensures refused { IfErr result (IsRefused M.outside media.old (request_view asked.now)) }
     ensures only_reads { OnlyReads M.outside media.old media.new }
-    ensures cause { LoadCause (M.outside.read_faults media.old) (M.outside.read_faults media.new) result }
+    ensures cause { LoadCause (M.outside.read_faults media.old)
+        (M.outside.read_faults media.new) result }
 {
     let loaded = match open(alloc, media, asked.session) {
         Ok(loaded) => loaded,

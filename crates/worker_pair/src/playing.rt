@@ -27,7 +27,8 @@ impl<M: Media, I: Source, W: Sink> Pair<M, I, W> {
         requires before { W.outside.held self.old.process.master.sink ≡ at.begun.before }
         ensures runs { OnOk result (Runs M.outside I.outside W.outside (headed at) self.new) }
         ensures rests { Rests M.outside at self.new }
-        ensures writes { Writes W.outside (head_bytes at.begun.session self.old.process.journal.room)
+        ensures writes { Writes W.outside
+            (head_bytes at.begun.session self.old.process.journal.room)
             self.old.process.master.sink self.new.process.master.sink result }
         ensures same { OnlyTheMaster self.old self.new }
         ensures fault { IfErr result (λ why. why ≡ MasterFault) }

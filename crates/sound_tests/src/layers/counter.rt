@@ -43,7 +43,8 @@ fn sound(alloc: Global, channels: u16, samples: &[i32]) -> Option<MemSound>
 
 /// Three sources of these samples, which weren't read so far.
 pub(super) fn counting(alloc: Global, channels: u16, sounds: [&[i32]; 3]) -> Option<Counter>
-    ensures { IfSome result (λ c. channels_in c.frames.sources ≡ channels ∷ channels ∷ channels ∷ []) }
+    ensures { IfSome result
+        (λ c. channels_in c.frames.sources ≡ channels ∷ channels ∷ channels ∷ []) }
 {
     let mut list = Vec::new(alloc);
     list.push(sound(alloc, channels, sounds[0])?).ok()?;

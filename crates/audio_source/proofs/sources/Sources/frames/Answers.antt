@@ -69,10 +69,10 @@ pub returns-clause-lines : goal.returns-clause-lines
 returns-clause-lines g c = let after = (goal.at.returns-clause-lines g c).After-frames_by_lines in laws.names_held (map opened_source c.self.inside.entries.items) c.frames_by_lines.new.lines.held
     ∙ c.in_ok-frames_by_lines.ensures.lines ∙ ap (λ l. after_asking l (keys_of c.self.inside.lines.held)) (asked g after) ∙ ap (after_asking (asked_in c.args.self.now.opened c.args.source c.args.from (length c.args.out.now))) (names g after)
 
-pub returns-in_err-frames_by_lines-clause-fault : goal.returns-in_err-frames_by_lines-clause-fault
-returns-in_err-frames_by_lines-clause-fault g c = let after = (goal.at.returns-in_err-frames_by_lines-clause-fault g c).After-frames_by_lines in
-    laws.on_err (IsFaultAt (asked_in c.args.self.now.opened c.args.source c.args.from (length c.args.out.now)) (names_of c.args.self.now.held) (names_of (map (held_line (map opened_source c.self.inside.entries.items)) c.frames_by_lines.new.lines.held)))
-    c.from_residual.result (subst (λ ns. IsFaultAt (asked_in c.args.self.now.opened c.args.source c.args.from (length c.args.out.now)) (names_of c.args.self.now.held) ns) (sym (laws.names_held (map opened_source c.self.inside.entries.items) c.frames_by_lines.new.lines.held))
+pub returns-in_err-frames_by_lines-clause-lines : goal.returns-in_err-frames_by_lines-clause-lines
+returns-in_err-frames_by_lines-clause-lines g c = let after = (goal.at.returns-in_err-frames_by_lines-clause-lines g c).After-frames_by_lines in
+    laws.is_fault (asked_in c.args.self.now.opened c.args.source c.args.from (length c.args.out.now)) (names_of c.args.self.now.held) (names_of (map (held_line (map opened_source c.self.inside.entries.items)) c.frames_by_lines.new.lines.held))
+    c.from_residual.result c.from_residual.ensures.0 (subst (λ ns. IsFaultAt (asked_in c.args.self.now.opened c.args.source c.args.from (length c.args.out.now)) (names_of c.args.self.now.held) ns) (sym (laws.names_held (map opened_source c.self.inside.entries.items) c.frames_by_lines.new.lines.held))
     (subst (λ ns. IsFaultAt (asked_in c.args.self.now.opened c.args.source c.args.from (length c.args.out.now)) ns (keys_of c.frames_by_lines.new.lines.held)) (names g after)
     (subst (λ l. IsFaultAt l (keys_of c.self.inside.lines.held) (keys_of c.frames_by_lines.new.lines.held)) (asked g after) c.in_err-frames_by_lines.ensures.fault)))
 
