@@ -1,10 +1,8 @@
 //! A butler's ends meet those of the process.
 ghost use Rattle.std.specs.Prelude.{◌≡◌};
-ghost use Rattle.process_cycle.specs.Ends.{EndsMeet, MayMeet};
-ghost use Rattle.process_cycle.specs.Looked.{HasLooked};
-ghost use Rattle.process_cycle.specs.Playing.{IsPlaying};
+ghost use Rattle.process_cycle.specs.Ends.{MayMeet, MayMeetPlays};
+ghost use Rattle.process_cycle.specs.Meetings.{MeetsOthers};
 ghost use Rattle.process_cycle.specs.ProcessState.{Playing};
-ghost use Rattle.process_cycle.specs.Promised.{IsMastered};
 
 use crate::butler::Butler;
 use process_cycle::Process;
@@ -17,14 +15,20 @@ impl<M: Media> Butler<M> {
         ghost at: { Playing }
         requires { MayMeet process.old.ends self.old.ends }
         ensures same { self.new ≡ record self.old { ends = self.new.ends } }
-        ensures process { process.new ≡ record process.old { ends = process.new.ends } }
-        ensures ends { EndsMeet process.old.ends self.old.ends process.new.ends self.new.ends }
-        ensures playing { IsPlaying I.outside at process.old
-            → IsPlaying I.outside at process.new }
-        ensures looked { HasLooked at process.old → HasLooked at process.new }
-        ensures master { IsMastered W.outside at process.old
-            → IsMastered W.outside at process.new }
+        ensures process { MeetsOthers I.outside W.outside at process.old self.old.ends
+            process.new self.new.ends }
     {
         process.meet(&mut self.ends);
+    }
+
+    /// The same where only the ends of playback rings have something to tell: no other is asked.
+    pub fn meet_plays<I: Source, W: Sink>(&mut self, process: &mut Process<I, W>)
+        ghost at: { Playing }
+        requires { MayMeetPlays process.old.ends self.old.ends }
+        ensures same { self.new ≡ record self.old { ends = self.new.ends } }
+        ensures process { MeetsOthers I.outside W.outside at process.old self.old.ends
+            process.new self.new.ends }
+    {
+        process.meet_plays(&mut self.ends);
     }
 }

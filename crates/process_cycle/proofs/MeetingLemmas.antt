@@ -11,6 +11,7 @@ use Rattle.disk_ring.specs.Receiver.{Receiver}
 use Rattle.piece_item.specs.declared.item.Item.{Item}
 use Rattle.piece_item.specs.declared.take_block.TakeBlock.{TakeBlock}
 use Rattle.piece_item.specs.declared.butler_ends.ButlerEnds.{ButlerEnds}
+use Rattle.cycle_journal.specs.JournalView.{seen_entries}
 use Rattle.track_capture.specs.declared.capture.TrackCapture.{TrackCapture}
 use Rattle.track_capture.specs.Counted.{Counts}
 use Rattle.track_playback.specs.declared.playback.TrackPlayback.{TrackPlayback}
@@ -20,6 +21,7 @@ use Rattle.track_playback.specs.SpareBoxes.{received_items, received_kinds}
 use Rattle.process_cycle.specs.declared.ends.ProcessEnds.{ProcessEnds}
 use Rattle.process_cycle.specs.Ends.{AllMeet, EndsMeet, block_of, AreOtherEnds}
 use Rattle.process_cycle.specs.Looked.{HasLooked, IsLookedUp}
+use Rattle.process_cycle.specs.Meetings.{MeetsOthers}
 use Rattle.process_cycle.specs.Playing.{IsPlaying, IsOpenIn, IsRecorded}
 use Rattle.process_cycle.specs.ProcessState.{ProcessState, Playing, entries_of, position_of, sound_of}
 use Rattle.process_cycle.specs.Promised.{HoldsBlocks}
@@ -163,3 +165,16 @@ pub mastered_after_a_meeting : {W : Type 0} (outside : SinkOutside W) (at : Play
     outside.tells → HoldsBlocks outside at cycles entries (map received_items ours_now.plays.items) sink
 mastered_after_a_meeting outside at cycles entries sink ours ours_now theirs theirs_now met count was tells = subst (λ items. HoldsBlocks outside at cycles entries items sink)
     (sym (same_items ours.plays.items ours_now.plays.items met.plays.receivers (λ t r within. told_at theirs.sends.items ours.plays.items theirs_now.sends.items ours_now.plays.items met.plays count t r within))) (was tells)
+
+-- so all of it is as a contract says it, of a process that is seen as this one
+pub meets_others : {I W : Type 0} (inputs : SourceOutside I) (sinks : SinkOutside W) (at : Playing) (p old : ProcessState I W) (theirs theirs_now : ButlerEnds) (ends : ProcessEnds) → p ≡ old → AreOtherEnds old.ends theirs →
+    EndsMeet p.ends theirs ends theirs_now → MeetsOthers inputs sinks at old theirs (record p { ends = ends }) theirs_now
+meets_others {I} {W} inputs sinks at p old theirs theirs_now ends is others met = subst (λ q. MeetsOthers inputs sinks at q theirs (record p { ends = ends }) theirs_now) is (record {
+  same = refl;
+  ends = met;
+  playing = plays_after_a_meeting at p ends theirs theirs_now met other inputs;
+  looked = looked_after_a_meeting at p ends theirs theirs_now met other;
+  master = mastered_after_a_meeting sinks at p.journal.room (reverse (seen_entries p.journal.items)) p.master.sink p.ends ends theirs theirs_now met other.plays.count;
+}) where
+  other : AreOtherEnds p.ends theirs
+  other = subst (λ (q : ProcessState I W). AreOtherEnds q.ends theirs) (sym is) others

@@ -80,6 +80,13 @@ pub record MayMeet (ours : ProcessEnds) (theirs : ButlerEnds) : Type 0 where
   pub takes : AllStillMet ours.takes.items theirs.takes.items
   pub acks : StillMet ours.to_butler theirs.acks
 
+-- All ends but those of the playback rings know all of each other, so that a meeting leaves them as they are; the others may be met again.
+pub record MayMeetPlays (ours : ProcessEnds) (theirs : ButlerEnds) : Type 0 where
+  pub others : AreOtherEnds ours theirs
+  pub plays : AllStillMet theirs.sends.items ours.plays.items
+  pub takes : AllMeet ours.takes.items theirs.takes.items ours.takes.items theirs.takes.items
+  pub acks : Meet ours.to_butler theirs.acks ours.to_butler theirs.acks
+
 pub record EndsMeet (ours : ProcessEnds) (theirs : ButlerEnds) (ours_now : ProcessEnds) (theirs_now : ButlerEnds) : Type 0 where
   pub plays : AllMeet theirs.sends.items ours.plays.items theirs_now.sends.items ours_now.plays.items
   pub takes : AllMeet ours.takes.items theirs.takes.items ours_now.takes.items theirs_now.takes.items

@@ -6,6 +6,7 @@ pub mod ProcessState
 pub mod Promised
 pub mod Playing
 pub mod Looked
+pub mod Meetings
 pub mod Cycles
 pub mod Heard
 pub mod Making

@@ -1,6 +1,6 @@
 //! How the ends of many rings meet, and are closed.
 ghost use Rattle.std.specs.Prelude.{◌≡◌, ℕ, ◌<◌, length, map, slice_index_or};
-ghost use Rattle.process_cycle.specs.Ends.{AreOfOneRing, AllMeet, AllStillMet, EndsMeet, MayMeet, shut};
+ghost use Rattle.process_cycle.specs.Ends.{AreOfOneRing, AllMeet, AllStillMet, EndsMeet, MayMeet, MayMeetPlays, shut};
 
 use crate::ends::ProcessEnds;
 use disk_ring::{RingIn, RingOut, Roomy, meet_again};
@@ -26,6 +26,14 @@ pub fn meet_ends(ours: &mut ProcessEnds, theirs: &mut ButlerEnds)
     meet_all(theirs.sends.as_mut_slice(), ours.plays.as_mut_slice());
     meet_all(ours.takes.as_mut_slice(), theirs.takes.as_mut_slice());
     meet_again(&mut ours.to_butler, &mut theirs.acks);
+}
+
+/// The same where only the ends of playback rings have something to tell: no other is asked.
+pub(crate) fn meet_plays(ours: &mut ProcessEnds, theirs: &mut ButlerEnds)
+    requires { MayMeetPlays ours.old theirs.old }
+    ensures { EndsMeet ours.old theirs.old ours.new theirs.new }
+{
+    meet_all(theirs.sends.as_mut_slice(), ours.plays.as_mut_slice());
 }
 
 /// Closes each ring.

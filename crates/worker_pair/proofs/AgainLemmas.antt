@@ -1,7 +1,8 @@
 -- Ends that know all of each other may meet again once one of each pair has gone on: where their counts agree nothing moved.
 use Rattle.std.proofs.Common.{◌≡◌, inl, inr, ℕ, ◌+◌, ◌^◌, ◌≤◌, List, [], ◌∷◌, length, append-nil, sym, ap, subst, arith, ◌∙◌}
-use Rattle.std.specs.Prelude.{ℤ, slice_get, Some}
+use Rattle.std.specs.Prelude.{ℤ, slice_get, slice_index_or, Some}
 use Rattle.std.proofs.lemmas.Bool.{true≢false}
+use Rattle.std.proofs.lemmas.Option.{slice_get-get_or}
 use mathlib.Core.List.{IsPrefix}
 use base.Growing.{prefix_refl}
 use Rattle.session_model.specs.declared.session.Session.{Session}
@@ -16,7 +17,7 @@ use Rattle.cycle_journal.specs.declared.note.Take.{Take}
 use Rattle.cycle_journal.specs.declared.note.Take.TheVariants.{Off, Taken, Lost}
 use Rattle.track_capture.specs.Counted.{HasCaptured}
 use Rattle.process_cycle.specs.Cycles.{Acknowledges}
-use Rattle.process_cycle.specs.Ends.{AllStillMet}
+use Rattle.process_cycle.specs.Ends.{AllMeet, AllStillMet, Meet}
 use Rattle.worker_pair.specs.Met.{KnowEachOther, AllKnow}
 
 -- more was put, or the ring was closed
@@ -62,6 +63,20 @@ module _ {T : Type 0} where
   pub still_known : (a : Sender T) (b : Receiver T) → KnowEachOther a b → StillMet a b
   still_known a b know = still_in a a b know (record { depth = λ i. a.depth; sent = prefix_refl a.sent })
 
+  -- a meeting of which changes nothing
+  pub meet_known : (a : Sender T) (b : Receiver T) → KnowEachOther a b → Meet a b a b
+  meet_known a b know = record {
+    sender = λ i. record a { got = know.got i };
+    receiver = λ i. record b { heard = know.heard i; over = know.over i };
+    met = record {
+      depth = know.depth;
+      passed = know.passed;
+      heard = subst (IsPrefix b.heard) know.heard (prefix_refl b.heard);
+      over = λ over. (sym know.over ∙ over, know.heard);
+      got = omega (arith, know.got);
+    };
+  }
+
   -- ---- the pairs of two lists
 
   pub all_in : (a c : List (Sender T)) (b : List (Receiver T)) → AllKnow a b → length c ≡ length a → ((t : ℕ) (x y : Sender T) → slice_get a t ≡ Some x → slice_get c t ≡ Some y → PutsOn x y) →
@@ -74,6 +89,14 @@ module _ {T : Type 0} where
 
   pub all_known : (a : List (Sender T)) (b : List (Receiver T)) → AllKnow a b → AllStillMet a b
   all_known a b know t s r hs hr = still_known s r (know t s r hs hr)
+
+  pub all_meet_known : (a : List (Sender T)) (b : List (Receiver T)) → AllKnow a b → length b ≡ length a → AllMeet a b a b
+  all_meet_known a b know many = record {
+    senders = λ i. length a;
+    receivers = λ i. length b;
+    each = λ t x y within. meet_known (slice_index_or a t x) (slice_index_or b t y)
+        (know t (slice_index_or a t x) (slice_index_or b t y) (slice_get-get_or a t x within) (slice_get-get_or b t y (omega (arith, within, many))));
+  }
 
 -- ---- what puts on
 

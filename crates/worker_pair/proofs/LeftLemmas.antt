@@ -15,7 +15,6 @@ use Rattle.machine_laws.proofs.LookLemmas.{AllWithin, gather_done}
 use Rattle.machine_laws.proofs.Tracks.{also_there}
 use Rattle.disk_ring.specs.Sender.{Sender}
 use Rattle.disk_ring.specs.Receiver.{Receiver, GoesOnOut}
-use Rattle.disk_ring.specs.Rings.{StillMet}
 use Rattle.piece_item.specs.declared.butler_ends.ButlerEnds.{ButlerEnds}
 use Rattle.piece_item.specs.declared.item.Item.{Item}
 use Rattle.track_playback.specs.declared.playback.SpareBox.{SpareBox}
@@ -27,7 +26,7 @@ use Rattle.track_playback.specs.Looks.{EndsWith}
 use Rattle.process_cycle.specs.declared.ends.ProcessEnds.{ProcessEnds}
 use Rattle.process_cycle.specs.declared.process.Look.{Look}
 use Rattle.process_cycle.specs.declared.process.Look.TheVariants.{Ready, Short}
-use Rattle.process_cycle.specs.Ends.{AllStillMet, AreOfOneRing, AreOtherEnds, EndsMeet, MayMeet}
+use Rattle.process_cycle.specs.Ends.{AllMeet, AreOfOneRing, AreOtherEnds, EndsMeet, MayMeetPlays, Meet}
 use Rattle.process_cycle.specs.Looked.{Keeps, LookAnswers, LooksAtAll}
 use Rattle.process_cycle.specs.Playing.{IsPlaying}
 use Rattle.process_cycle.specs.Promised.{IsMastered}
@@ -39,7 +38,7 @@ use Rattle.worker_pair.specs.Never.{NothingIsTaken}
 use Rattle.worker_pair.specs.Plays.{Looks}
 use Rattle.worker_pair.specs.Runs.{HasEntered, Runs, Serves}
 use Rattle.worker_pair.specs.Tied.{IsControlRing, IsTied, rings_of}
-use Rattle.worker_pair.proofs.AgainLemmas.{all_known, all_out, still_known}
+use Rattle.worker_pair.proofs.AgainLemmas.{all_meet_known, all_out, meet_known}
 use Rattle.worker_pair.proofs.MetLemmas.{ServesApart, meet_at, rings_met, serves_met}
 use Rattle.worker_pair.proofs.NowLemmas.{control_on}
 use Rattle.worker_pair.proofs.GatherLemmas.{look_ups_are_over, looked_core, rings_looked, track_within}
@@ -90,12 +89,13 @@ module _ {V I W : Type 0} (media : MediaOutside V) (inputs : SourceOutside I) (s
       (subst (GoesOnOut (slice_index_or old.process.ends.plays.items t x)) (get_or_from_slice_get q.ends.plays.items t y x hy) (looks.looks t x d.0 here).ring)
 
   -- and all ends may meet again
-  pub may_meet_looked : MayMeet q.ends old.butler.ends
+  pub may_meet_looked : MayMeetPlays q.ends old.butler.ends
   may_meet_looked = let met = runs.serves.met in record {
     others = others_looked;
     plays = all_out old.butler.ends.sends.items old.process.ends.plays.items q.ends.plays.items met.plays looks.many looked_on;
-    takes = subst (λ (z : ProcessState I W). AllStillMet z.ends.takes.items old.butler.ends.takes.items) (sym keeps.same) (all_known old.process.ends.takes.items old.butler.ends.takes.items met.takes);
-    acks = subst (λ (z : ProcessState I W). StillMet z.ends.to_butler old.butler.ends.acks) (sym keeps.same) (still_known old.process.ends.to_butler old.butler.ends.acks met.acks);
+    takes = subst (λ (z : ProcessState I W). AllMeet z.ends.takes.items old.butler.ends.takes.items z.ends.takes.items old.butler.ends.takes.items) (sym keeps.same)
+        (all_meet_known old.process.ends.takes.items old.butler.ends.takes.items met.takes runs.serves.others.takes.count);
+    acks = subst (λ (z : ProcessState I W). Meet z.ends.to_butler old.butler.ends.acks z.ends.to_butler old.butler.ends.acks) (sym keeps.same) (meet_known old.process.ends.to_butler old.butler.ends.acks met.acks);
   }
 
   module _ (ours : ProcessEnds) (theirs : ButlerEnds) (meet : EndsMeet q.ends old.butler.ends ours theirs) where

@@ -4,7 +4,7 @@ ghost use Rattle.std.specs.Prelude.{◌≡◌, true, [], length, IfErr, OnOk};
 ghost use Rattle.ses_io.specs.Outside.{Writes};
 ghost use Rattle.master_blocks.specs.Bytes.{head_bytes, end_bytes};
 ghost use Rattle.process_cycle.specs.declared.fault.CycleFault.TheVariants.{MasterFault};
-ghost use Rattle.process_cycle.specs.Ends.{MayMeet};
+ghost use Rattle.process_cycle.specs.Ends.{MayMeetPlays};
 ghost use Rattle.process_cycle.specs.Looked.{HasLooked, LookAnswers};
 ghost use Rattle.process_cycle.specs.Playing.{IsPlaying};
 ghost use Rattle.process_cycle.specs.ProcessState.{Playing};
@@ -57,10 +57,10 @@ impl<M: Media, I: Source, W: Sink> Pair<M, I, W> {
         answer
     }
 
-    // The two ends of each ring tell each other what they know. Nothing else changes.
+    // The ends of playback rings tell each other what they know. Nothing else changes.
     fn meet(&mut self)
         ghost at: { Playing }
-        requires { MayMeet self.old.process.ends self.old.butler.ends }
+        requires { MayMeetPlays self.old.process.ends self.old.butler.ends }
         ensures same { self.new ≡ record self.old
             { butler = self.new.butler; process = self.new.process } }
         ensures meets { MeetsAfter self.old self.old.process self.new }
@@ -70,7 +70,7 @@ impl<M: Media, I: Source, W: Sink> Pair<M, I, W> {
         ensures master { IsMastered W.outside at self.old.process
             → IsMastered W.outside at self.new.process }
     {
-        self.butler.meet(&mut self.process);
+        self.butler.meet_plays(&mut self.process);
     }
 
     /// One cycle of the process in the edition of its last look, and a meeting of the ends. After a

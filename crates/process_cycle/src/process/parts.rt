@@ -1,13 +1,11 @@
 //! How a process meets the butler on one thread, and what it leaves when it is taken apart.
 ghost use Rattle.std.specs.Prelude.{◌≡◌};
-ghost use Rattle.process_cycle.specs.Ends.{EndsMeet, MayMeet, shut_ends};
+ghost use Rattle.process_cycle.specs.Ends.{MayMeet, MayMeetPlays, shut_ends};
+ghost use Rattle.process_cycle.specs.Meetings.{MeetsOthers};
 ghost use Rattle.process_cycle.specs.ProcessState.{Playing};
-ghost use Rattle.process_cycle.specs.Promised.{IsMastered};
-ghost use Rattle.process_cycle.specs.Playing.{IsPlaying};
-ghost use Rattle.process_cycle.specs.Looked.{HasLooked};
 
 use crate::ends::ProcessEnds;
-use crate::meeting::{close_all, meet_ends};
+use crate::meeting::{close_all, meet_ends, meet_plays};
 use crate::process::Process;
 use cycle_journal::Journal;
 use piece_item::ButlerEnds;
@@ -29,13 +27,18 @@ impl<I: Source, W: Sink> Process<I, W> {
     pub fn meet(&mut self, other: &mut ButlerEnds)
         ghost at: { Playing }
         requires { MayMeet self.old.ends other.old }
-        ensures same { self.new ≡ record self.old { ends = self.new.ends } }
-        ensures ends { EndsMeet self.old.ends other.old self.new.ends other.new }
-        ensures playing { IsPlaying I.outside at self.old → IsPlaying I.outside at self.new }
-        ensures looked { HasLooked at self.old → HasLooked at self.new }
-        ensures master { IsMastered W.outside at self.old → IsMastered W.outside at self.new }
+        ensures { MeetsOthers I.outside W.outside at self.old other.old self.new other.new }
     {
         meet_ends(&mut self.ends, other);
+    }
+
+    /// The same where only the ends of playback rings have something to tell: no other is asked.
+    pub fn meet_plays(&mut self, other: &mut ButlerEnds)
+        ghost at: { Playing }
+        requires { MayMeetPlays self.old.ends other.old }
+        ensures { MeetsOthers I.outside W.outside at self.old other.old self.new other.new }
+    {
+        meet_plays(&mut self.ends, other);
     }
 
     /// Closes the rings of takes and of acknowledgements, and gives everything back.

@@ -1,4 +1,4 @@
 use Rattle.worker_pair.proofs.pair.Pair.meet.Given as goal
 
-abbrev pub ghost-meet : goal.ghost-meet
-ghost-meet g a = g.at
+abbrev pub ghost-meet_plays : goal.ghost-meet_plays
+ghost-meet_plays g a = g.at
