@@ -12,6 +12,7 @@ use ses_io::{FolderMedia, Media, MemMedia};
 use ses_units::Name;
 use session_model::{FileName, SourceDecl, SourceList};
 use std::alloc::Global;
+use std::{env, fs, process};
 
 /// The parts of a file `a.wav`, the sources with their channels, the rate, and what has to come of it.
 struct Case {
@@ -110,13 +111,35 @@ const TWO_FRAMES: &[u8] = b"RIFF\x3e\0\0\0WAVEJUNK\x03\0\0\0\x01\x02\x03\0\
     fmt \x10\0\0\0\x01\0\x02\0\x80\xbb\0\0\0\0\0\0\x02\0\x08\0\
     data\x04\0\0\0\x81\x82\x83\x84LIST\x02\0\0\0\x07\x07";
 
-/// Whether the last frame, and what follows, is heard of a file that is written into the folder.
-pub(crate) fn is_heard_in_folder(alloc: Global, media: &mut FolderMedia<HostRuntime>) -> bool {
+// Whether the last frame, and what follows, is heard of a file that is written into the folder.
+fn is_heard_in_folder(alloc: Global, media: &mut FolderMedia<HostRuntime>) -> bool {
     if media.append("source.wav", TWO_FRAMES) != Ok(TWO_FRAMES.len()) {
         return false;
     }
     match open(alloc, media, &[("source.wav", 2)], 48_000) {
         Ok(mut sources) => is_heard(&mut sources, media, 0, 1, &[196_608, 262_144, 0, 0]),
+        Err(_) => false,
+    }
+}
+
+// The same of a folder that is made for it, and taken away.
+fn is_heard_in(rt: HostRuntime, path: &str) -> bool {
+    let made = fs::create_dir(&rt, path).is_ok();
+    let heard = match String::from_str(rt.alloc(), path) {
+        Ok(folder) => is_heard_in_folder(rt.alloc(), &mut FolderMedia::new(rt, folder)),
+        Err(_) => false,
+    };
+    let gone = fs::remove_dir_all(&rt, path).is_ok();
+    made && heard && gone
+}
+
+fn temporary_is_heard(rt: HostRuntime) -> bool {
+    let id = process::id(rt.process());
+    match env::temp_dir(&rt) {
+        Ok(temp) => match format!(in rt.alloc(); "{}/source_tests-{id}", temp.as_str()) {
+            Ok(path) => is_heard_in(rt, path.as_str()),
+            Err(_) => false,
+        },
         Err(_) => false,
     }
 }
@@ -148,6 +171,11 @@ fn are_right(alloc: Global, cases: &[Case]) -> bool {
         }
     }
     true
+}
+
+#[test]
+fn a_file_of_a_folder_is_heard(rt: HostRuntime) {
+    assert!(rt; temporary_is_heard(rt));
 }
 
 #[test]

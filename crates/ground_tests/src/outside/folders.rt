@@ -1,7 +1,6 @@
 //! A real folder as a media, and its files as sources and sinks.
 use super::files::are_made;
 use super::{Call, does_all};
-use crate::sources::is_heard_in_folder;
 use ses_io::{Failed, FolderMedia, Media};
 use std::{env, fs, process};
 
@@ -115,7 +114,6 @@ fn serves(rt: HostRuntime, path: &str, media: &mut FolderMedia<HostRuntime>) -> 
         && are_written(media)
         && does_all(media, AFTER)
         && are_made(rt, path)
-        && is_heard_in_folder(rt.alloc(), media)
         && are_missed(rt, path, media)
         && many_serve(rt, media);
     let gone = fs::remove_dir_all(&rt, path).is_ok();
