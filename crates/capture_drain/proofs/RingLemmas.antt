@@ -1,6 +1,6 @@
 -- One ring, drained block by block.
 use Rattle.std.proofs.Common.{◌≡◌, ◌+◌, ◌≤◌, [], ◌∷◌, ◌++◌, length, refl, sym, ap, ◌∙◌, arith, inl, inr, Bool, true, false, true≢false}
-use Rattle.disk_ring.specs.Receiver.{Receiver, GoesOnOut}
+use Rattle.disk_ring.specs.Receiver.{FoundMore, GoesOnOut, Receiver}
 use Rattle.disk_ring.proofs.GoesOn.{goes_on_out_refl, goes_on_out_trans}
 use base.Growing.{prefix_trans}
 use Rattle.std.proofs.lemmas.List.{length-append}
@@ -32,6 +32,10 @@ module _ {T : Type 0} where
 -- the item that was taken, by another name
 pub received_more : (a b : Receiver TakeBlock) (item x : TakeBlock) → b ≡ record a { received = a.received ++ item ∷ [] } → x ≡ item → b.received ≡ a.received ++ x ∷ []
 received_more a b item x more is = ap (λ (r : Receiver TakeBlock). r.received) more ∙ ap (λ y. a.received ++ y ∷ []) (sym is)
+
+-- and since the end was told that there is more
+pub received_since : (a m b : Receiver TakeBlock) → FoundMore a m → (item x : TakeBlock) → b ≡ record m { received = m.received ++ item ∷ [] } → x ≡ item → b.received ≡ a.received ++ x ∷ []
+received_since a m b found item x more is = received_more m b item x more is ∙ ap (λ (r : Receiver TakeBlock). r.received ++ x ∷ []) found.tells
 
 -- what was answered
 pub has_taken : (a b : Receiver TakeBlock) (one : Bool) → one ≡ true → HasTaken a b one → (length b.received ≡ length a.received + 1) × (b.tails ≡ a.tails)

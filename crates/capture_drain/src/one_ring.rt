@@ -37,6 +37,9 @@ fn drain_one<M: Media>(
     ensures media { WritesTakes M.outside at.run.session at.rings (set at.rings track ring.new)
         media.old media.new result }
 {
+    if ring.is_empty() {
+        return Ok(false);
+    }
     let Some(husk) = kept.husk.take() else {
         unreachable!()
     };

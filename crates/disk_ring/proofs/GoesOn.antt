@@ -1,14 +1,16 @@
 -- What no call changes, from what each call leaves.
-use Rattle.std.proofs.Common.{◌≡◌, ℕ, ◌/◌, ◌≤◌, Bool, true, [], ◌∷◌, ◌++◌, length, sym, refl, ap, ◌∙◌, subst, append-nil, false, true≢false, le_refl, le_trans}
+use Rattle.std.proofs.Common.{◌≡◌, ℕ, ◌*◌, ◌/◌, ◌≤◌, Bool, true, [], ◌∷◌, ◌++◌, length, sym, refl, ap, ◌∙◌, subst, append-nil, false, true≢false, le_refl, le_trans}
 use base.Growing.{prefix_refl, prefix_trans}
 use mathlib.Core.List.{IsPrefix}
 use Rattle.disk_ring.specs.Sender.{Sender, GoesOnIn}
 use Rattle.disk_ring.specs.Receiver.{Receiver, GoesOnOut, receiver_of}
-use Rattle.disk_ring.specs.Steps.{close_bit, SawTail}
+use Rattle.disk_ring.specs.Steps.{close_bit, GlancedAt, SawTail}
 use Rattle.disk_ring.specs.declared.ring_table.Known.{Known}
 use Rattle.atomic_table.specs.declared.shared.Seat.{Seat}
 use Rattle.atomic_table.specs.Table.{step}
+use mathlib.Core.Logic.{dite}
 use mathlib.Core.Option.{none}
+use native.Mathlib.Decide.{ℕ_discrete}
 use Rattle.disk_ring.proofs.Beginnings.{whole}
 
 module _ {T : Type 0} where
@@ -66,6 +68,25 @@ after_look value room_of a p p' depth n word is same saw none_left = let left = 
     subst (λ z. GoesOnOut z (receiver_of p' depth)) is (after_nothing (receiver_of p depth) (receiver_of p' depth) (word / 2) (close_bit word)
     (λ i. record { ring = same i; depth = depth; room = (q i).0.room; received = (q i).0.received; tails = (q i).0.tails; ended = (q i).0.ended; heard = (q i).0.heard; over = (q i).0.over })
     left.0 (λ was. (saw.ended was).0) (λ was. let told = saw.over was in (told.0, sym none_left ∙ told.1)))
+
+-- and where it only glanced at the tail
+pub after_glance : {S T : Type 0} (a : Receiver T) (p p' : Seat S (Known T)) (depth word : ℕ) → receiver_of p depth ≡ a → p'.table_id ≡ p.table_id → GlancedAt p.me word p'.me → GoesOnOut a (receiver_of p' depth)
+after_glance {S} {T} a p p' depth word is same saw =
+    let v = p.me.0 in let told : v.over ≡ true → p'.me.0.heard ≡ v.heard = λ was. sym (whole v.heard p'.me.0.heard saw.heard (sym (saw.over was).1 ∙ sym saw.told)) in
+    let goes : (w : Known T) → p'.me ≡ (w, p.me.1) → w.room ≡ v.room → w.received ≡ v.received → IsPrefix v.tails w.tails → w.ended ≡ v.ended → (v.over ≡ true → w.over ≡ true) → GoesOnOut (receiver_of p depth) (receiver_of p' depth) =
+    λ w q room received tails ended over. record {
+      ring = same;
+      depth = refl;
+      room = ap (λ z. z.0.room) q ∙ room;
+      received = ([], append-nil v.received ∙ sym (ap (λ z. z.0.received) q ∙ received));
+      tails = subst (IsPrefix v.tails) (ap (λ z. z.0.tails) (sym q)) tails;
+      ended = λ was. (ap (λ z. z.0.ended) q ∙ ended ∙ was, ap (λ z. z.0.received) q ∙ received);
+      heard = saw.heard;
+      over = λ was. (ap (λ z. z.0.over) q ∙ over was, told was);
+    } in
+    subst (λ z. GoesOnOut z (receiver_of p' depth)) is (dite (ℕ_discrete word (2 * length v.received))
+    (λ none_left. goes (record v { tails = v.tails ++ length v.received ∷ []; heard = v.received }) (saw.empty none_left) refl refl (length v.received ∷ [], refl) refl (λ was. was))
+    (λ more. goes (record v { heard = p'.me.0.heard; over = close_bit word }) (saw.more more) refl refl (prefix_refl v.tails) refl (λ was. (saw.over was).0)))
 
 module _ {T : Type 0} where
   -- calls one after the other

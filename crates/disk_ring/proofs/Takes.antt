@@ -11,7 +11,7 @@ use Rattle.atomic_table.specs.Table.{State, Me, step, keeps, takes, gives, Allow
 use Rattle.atomic_table.proofs.Lists.{set_here, set_else}
 use Rattle.disk_ring.specs.declared.ring_table.Known.{Known}
 use Rattle.disk_ring.specs.Rule.{Flow, Ruled, Law, bit}
-use Rattle.disk_ring.specs.Steps.{close_bit, SawTail, Received, RecalledOut}
+use Rattle.disk_ring.specs.Steps.{close_bit, SawTail, GlancedAt, Received, RecalledOut}
 use Rattle.disk_ring.proofs.Beginnings.{begins_length, whole, shorter, next_at}
 use Rattle.disk_ring.proofs.Seats.{Moves, seated, still_sends}
 use Rattle.disk_ring.proofs.Slots.{apart, Goes, looks, unread, sized}
@@ -123,6 +123,57 @@ module _ {S T : Type 0} (value : S → T) (room_of : T → ℕ) where
   pub sees_tail : (room n id : ℕ) (me : Me S K) → me.0.takes ≡ true → me.0.held ≡ [] → Allows (Law value room_of room) n id me 1 (λ x. x) (Saw n me)
   sees_tail room n id me mine empty s law wide at _ = let r = sized value room_of room n s law wide in
       dite (ℕ_discrete (get_or s.words 1 0 / 2) (length me.0.received)) (sees_nothing room n s r id me at mine empty) (sees_item room n s r id me at mine empty)
+
+  glances_nothing : (room n : ℕ) (s : State S K) (r : R room n s) (id : ℕ) (me : Me S K) → get_elem? s.views id ≡ some me.0 → me.0.takes ≡ true → me.0.held ≡ []
+      → get_or s.words 1 0 ≡ 2 * length me.0.received → Goes value room_of room s 1 id me (GlancedAt me) (get_or s.words 1 0)
+  glances_nothing room n s r id me at mine empty none_left =
+      let f = r.each_seat id me.0 at in let c = f.takes mine in let w = r.flow in let x : ℕ = get_or s.words 1 0 in let xs = me.0.received in
+      let number : x / 2 ≡ length w.log = ap (λ z. z / 2) r.tail ∙ number_of (length w.log) w.shut in let shut : close_bit x ≡ w.shut = ap close_bit r.tail ∙ bit_of (length w.log) w.shut in
+      let begun : IsPrefix xs w.log = subst (λ (z : List T). IsPrefix z w.log) (ap (λ z. xs ++ z) empty ∙ append-nil xs) c.begins in
+      let all : xs ≡ w.log = whole xs w.log begun (omega (arith, number, none_left)) in
+      let v : K = record me.0 { tails = me.0.tails ++ length xs ∷ []; heard = xs } in (
+        v,
+        keeps,
+        tt,
+        looks value room_of room n s r 1 id v record { heard = begun; over = λ e. let o = f.over e in (o.0, all); got = f.got; sends = f.sends; takes = f.takes },
+        record {
+          small = let most = r.small in omega arith;
+          over = λ e. let o = f.over e in (shut ∙ o.0, number ∙ ap length (sym o.1));
+          ended = λ e. let o = c.all e in (shut ∙ o.0, number ∙ ap length (sym o.1));
+          heard = subst (IsPrefix me.0.heard) (sym all) f.heard;
+          begins = prefix_refl xs;
+          told = ap length all ∙ sym number;
+          empty = λ _. refl;
+          more = λ other. absurd (other none_left);
+        },
+      )
+
+  glances_more : (room n : ℕ) (s : State S K) (r : R room n s) (id : ℕ) (me : Me S K) → get_elem? s.views id ≡ some me.0 → me.0.takes ≡ true → me.0.held ≡ []
+      → get_or s.words 1 0 ≢ 2 * length me.0.received → Goes value room_of room s 1 id me (GlancedAt me) (get_or s.words 1 0)
+  glances_more room n s r id me at mine empty more =
+      let f = r.each_seat id me.0 at in let c = f.takes mine in let w = r.flow in let x : ℕ = get_or s.words 1 0 in let xs = me.0.received in
+      let number : x / 2 ≡ length w.log = ap (λ z. z / 2) r.tail ∙ number_of (length w.log) w.shut in let shut : close_bit x ≡ w.shut = ap close_bit r.tail ∙ bit_of (length w.log) w.shut in
+      let begun : IsPrefix xs w.log = subst (λ (z : List T). IsPrefix z w.log) (ap (λ z. xs ++ z) empty ∙ append-nil xs) c.begins in
+      let v : K = record me.0 { heard = w.log; over = close_bit x } in (
+        v,
+        keeps,
+        tt,
+        looks value room_of room n s r 1 id v record { heard = prefix_refl w.log; over = λ e. (sym shut ∙ e, refl); got = f.got; sends = f.sends; takes = f.takes },
+        record {
+          small = let most = r.small in omega arith;
+          over = λ e. let o = f.over e in (shut ∙ o.0, number ∙ ap length (sym o.1));
+          ended = λ e. let o = c.all e in (shut ∙ o.0, number ∙ ap length (sym o.1));
+          heard = f.heard;
+          begins = begun;
+          told = sym number;
+          empty = λ none_left. absurd (more none_left);
+          more = λ _. refl;
+        },
+      )
+
+  pub glances : (room n id : ℕ) (me : Me S K) → me.0.takes ≡ true → me.0.held ≡ [] → Allows (Law value room_of room) n id me 1 (λ x. x) (GlancedAt me)
+  glances room n id me mine empty s law wide at _ = let r = sized value room_of room n s law wide in
+      dite (ℕ_discrete (get_or s.words 1 0) (2 * length me.0.received)) (glances_nothing room n s r id me at mine empty) (glances_more room n s r id me at mine empty)
 
   -- the item in hand is received
   freed : Flow T → Flow T

@@ -1,9 +1,9 @@
 -- The seats of the two ends at a ring's table.
-use Rattle.std.specs.Prelude.{◌≡◌, ℕ, ◌%◌, ◌^◌, ◌<◌, ◌≤◌, Bool, true, false, [], length}
+use Rattle.std.specs.Prelude.{◌≡◌, ℕ, ◌+◌, ◌*◌, ◌%◌, ◌^◌, ◌<◌, ◌≤◌, true, false, [], length}
 use Rattle.atomic_table.specs.Seated.{TableId}
 use Rattle.atomic_table.specs.declared.shared.Seat.{Seat}
 use Rattle.disk_ring.specs.declared.ring_table.Known.{Known}
-use Rattle.disk_ring.specs.Rule.{opening_view}
+use Rattle.disk_ring.specs.Rule.{bit, opening_view}
 
 module _ {S T : Type 0} where
   -- the same seat, and the table that it was at
@@ -50,23 +50,22 @@ module _ {S T : Type 0} where
     pub place : slot ≡ length p.me.0.received % z.slots
 
   -- what is always so of the producer's end
-  pub record SenderOk (z : TableId) (p : Seat S (Known T)) (count depth got : ℕ) (closed : Bool) : Type 0 where
+  pub record SenderOk (z : TableId) (p : Seat S (Known T)) (count depth got word : ℕ) : Type 0 where
     pub seat : IsProducer z p
     pub slots : z.slots ≡ depth
     pub some_slot : 0 < depth
     pub counted : count ≡ length p.me.0.sent
     pub small : count ≤ 2 ^ 62
     pub knows : got ≡ p.me.0.got
-    pub shut : closed ≡ p.me.0.closed
+    pub stored : word ≡ 2 * count + bit p.me.0.closed
 
   -- what is always so of the consumer's end
-  pub record ReceiverOk (z : TableId) (p : Seat S (Known T)) (count depth told : ℕ) (over : Bool) : Type 0 where
+  pub record ReceiverOk (z : TableId) (p : Seat S (Known T)) (count depth word : ℕ) : Type 0 where
     pub seat : IsConsumer z p
     pub slots : z.slots ≡ depth
     pub some_slot : 0 < depth
     pub counted : count ≡ length p.me.0.received
     pub small : count ≤ 2 ^ 62
-    pub hears : told ≡ length p.me.0.heard
-    pub knows : over ≡ p.me.0.over
+    pub hears : word ≡ 2 * length p.me.0.heard + bit p.me.0.over
     -- where it was answered Closed it knows that this was all
-    pub ended : p.me.0.ended ≡ true → p.me.0.over ≡ true
+    pub ended : p.me.0.ended ≡ true → (p.me.0.over ≡ true) × (p.me.0.heard ≡ p.me.0.received)

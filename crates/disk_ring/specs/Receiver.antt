@@ -1,5 +1,5 @@
 -- What a clause sees of the end of a ring that takes, and what its calls do.
-use Rattle.std.specs.Prelude.{◌≡◌, ℕ, ◌^◌, ◌<◌, ◌≤◌, Bool, true, false, List, ◌∷◌, [], ◌++◌, length}
+use Rattle.std.specs.Prelude.{◌≡◌, ◌⊎◌, ℕ, ◌^◌, ◌<◌, ◌≤◌, Bool, true, false, List, ◌∷◌, [], ◌++◌, length}
 use mathlib.Core.List.{IsPrefix}
 use Rattle.atomic_table.specs.Seated.{TableId}
 use Rattle.atomic_table.specs.declared.shared.Seat.{Seat}
@@ -95,3 +95,12 @@ module _ {T : Type 0} where
     pub heard : IsPrefix a.heard a.received
     -- the tail is noted, it knows that what it received is all, and nothing else changed
     pub tails : b ≡ record a { tails = a.tails ++ tail ∷ []; heard = a.received; over = true; ended = true }
+
+  -- more items were sent than were received, or none is sent any more
+  pub record FoundMore (a b : Receiver T) : Type 0 where
+    -- it is told of items, and nothing else changed
+    pub tells : b ≡ record a { heard = b.heard; over = b.over }
+    -- what was received are the first of them
+    pub begins : IsPrefix a.received b.heard
+    -- there are more of them, or these are all
+    pub more : (length a.received < length b.heard) ⊎ (b.over ≡ true)

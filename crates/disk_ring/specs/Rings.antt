@@ -63,15 +63,15 @@ module _ {T : Type 0} where
     -- no fewer were received than the producer knew of
     pub got : a.got ≤ length b.received
 
-  -- By their counts nothing moved since these two ends met: the one that takes was told of as many items as were put, the one that puts of
-  -- as many as were taken, and neither knows of the ring's end.
+  -- By their words nothing moved since these two ends met: the one that takes knows the tail word that the other stored last, and the
+  -- one that puts as many items as were taken.
   pub record Agree (a : Sender T) (b : Receiver T) : Type 0 where
     pub heard : length b.heard ≡ length a.sent
+    pub over : b.over ≡ a.closed
     pub got : a.got ≡ length b.received
-    pub still_open : a.closed ≡ false
-    pub not_over : b.over ≡ false
-    pub not_ended : b.ended ≡ false
+    -- and where that one was answered Closed, it received all that it knows of
+    pub ended : b.ended ≡ true → (b.over ≡ true) × (b.heard ≡ b.received)
 
-  -- where the counts agree, what is so of ends that meet is so of these
+  -- where the words agree, what is so of ends that meet is so of these
   abbrev pub StillMet : Sender T → Receiver T → Type 0
   StillMet a b = Agree a b → Met a b

@@ -1,5 +1,5 @@
 -- What each step at a ring's table tells the end that makes it.
-use Rattle.std.specs.Prelude.{◌≡◌, ◌≢◌, ◌⊎◌, ℕ, ◌+◌, ◌/◌, ◌%◌, ◌^◌, ◌<◌, ◌≤◌, Bool, true, false, ◌==◌, List, [], ◌∷◌, ◌++◌, map, length}
+use Rattle.std.specs.Prelude.{◌≡◌, ◌≢◌, ◌⊎◌, ℕ, ◌+◌, ◌*◌, ◌/◌, ◌%◌, ◌^◌, ◌<◌, ◌≤◌, Bool, true, false, ◌==◌, List, [], ◌∷◌, ◌++◌, map, length}
 use mathlib.Core.List.{IsPrefix}
 use Rattle.atomic_table.specs.Table.{Me, Step}
 use Rattle.disk_ring.specs.declared.ring_table.Known.{Known}
@@ -42,6 +42,18 @@ module _ {S T : Type 0} where
   -- the producer stores the close bit
   abbrev pub Shut : Me S (Known T) → Me S (Known T) → Type 0
   Shut m m' = m' ≡ (record m.0 { closed = true }, m.1)
+
+  -- the consumer loads the tail word, and takes no slot
+  pub record GlancedAt (m : Me S (Known T)) (word : ℕ) (m' : Me S (Known T)) : Type 0 where
+    pub small : word / 2 ≤ 2 ^ 62
+    pub over : m.0.over ≡ true → (close_bit word ≡ true) × (word / 2 ≡ length m.0.heard)
+    pub ended : m.0.ended ≡ true → (close_bit word ≡ true) × (word / 2 ≡ length m.0.received)
+    pub heard : IsPrefix m.0.heard m'.0.heard
+    pub begins : IsPrefix m.0.received m'.0.heard
+    pub told : length m'.0.heard ≡ word / 2
+    pub empty : word ≡ 2 * length m.0.received
+        → m' ≡ (record m.0 { tails = m.0.tails ++ length m.0.received ∷ []; heard = m.0.received }, m.1)
+    pub more : word ≢ 2 * length m.0.received → m' ≡ (record m.0 { heard = m'.0.heard; over = close_bit word }, m.1)
 
   -- the consumer stores the head, and gives the slot back with the husk
   abbrev pub Received : Me S (Known T) → Me S (Known T) → Type 0

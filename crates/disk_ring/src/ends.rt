@@ -67,15 +67,14 @@ pub fn ring<T: Roomy + Drop>(
         count: 0,
         depth: u64::from(depth),
         got: 0,
-        closed: false,
+        word: 0,
     };
     let receiver = RingOut {
         ring_table: theirs,
         seat: second,
         count: 0,
         depth: u64::from(depth),
-        told: 0,
-        over: false,
+        word: 0,
     };
     Ok((sender, receiver))
 }

@@ -40,16 +40,14 @@ pub fn meet<T: Roomy>(a: &mut RingIn<T>, b: &mut RingOut<T>)
     tell_consumer(&a.ring_table, &mut b.seat, &mut a.seat);
     tell_producer(&a.ring_table, &mut a.seat, &mut b.seat);
     a.got = b.count;
-    b.told = a.count;
-    b.over = a.closed;
+    b.word = a.word;
 }
 
 // Whether their counts say that nothing moved since the two ends met.
 fn agree<T: Roomy>(a: &RingIn<T>, b: &RingOut<T>) -> bool
     ensures { IsTrue result → Agree a.now b.now }
 {
-    let knows_all = a.got == b.count && b.told == a.count;
-    knows_all && !a.closed && !b.over
+    a.got == b.count && a.word == b.word
 }
 
 /// The same of two ends that have met before: where their counts say that nothing moved since, it

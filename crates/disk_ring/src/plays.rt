@@ -1,6 +1,6 @@
 //! What each step tells. These types are for the proofs alone.
 ghost use Rattle.std.specs.Prelude.{[], false, length};
-ghost use Rattle.disk_ring.specs.Steps.{SawHead, Sent, Shut, SawTail, Received};
+ghost use Rattle.disk_ring.specs.Steps.{SawHead, Sent, Shut, SawTail, GlancedAt, Received};
 ghost use Rattle.disk_ring.specs.Steps.{RecalledIn, RecalledOut, note, hears, hears_list};
 
 use crate::ring_table::Known;
@@ -33,6 +33,13 @@ pub(crate) struct SeeTail;
 
 impl<T: Roomy> Play<Box<T>, Known<T>> for SeeTail {
     ghost then = { SawTail (λ b. b.value) T.room_of };
+}
+
+/// The consumer's load of the tail, with no slot.
+pub(crate) struct GlanceAtTail;
+
+impl<T: Roomy> Play<Box<T>, Known<T>> for GlanceAtTail {
+    ghost then = { λ st m. GlancedAt m };
 }
 
 /// The consumer's store of the head, with the slot that it gives back.

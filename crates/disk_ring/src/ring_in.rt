@@ -20,7 +20,8 @@ pub struct RingIn<T: Roomy> {
     pub(crate) depth: u64,
     /// How many items were received, as far as it knows.
     pub(crate) got: u64,
-    pub(crate) closed: bool,
+    /// The tail word, as it stored it.
+    pub(crate) word: u64,
 }
 
 impl<T: Roomy> Model for RingIn<T> {
@@ -33,7 +34,7 @@ impl<T: Roomy> Model for RingIn<T> {
     ghost view = { λ r. sender_of r.seat r.depth };
 
     ghost invariant = { λ r. SenderOk (arc_value r.ring_table).shared.table_id r.seat r.count
-        r.depth r.got r.closed };
+        r.depth r.got r.word };
 }
 
 /// The item wasn't put, and comes back, with the head that was loaded: the number received by then.
@@ -71,6 +72,7 @@ impl<T: Roomy> RingIn<T> {
         let slot = (self.count % self.depth) as usize;
         let husk = send(ring_table, &mut self.seat, slot, self.count, full);
         self.count += 1;
+        self.word = 2 * self.count;
         Ok(husk)
     }
 
@@ -79,6 +81,6 @@ impl<T: Roomy> RingIn<T> {
         ensures { self.new ≡ record self.old { closed = true } }
     {
         shut_off(&self.ring_table, &mut self.seat, self.count);
-        self.closed = true;
+        self.word = 2 * self.count + 1;
     }
 }

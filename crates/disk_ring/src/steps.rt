@@ -4,9 +4,9 @@ ghost use Rattle.std.specs.Global.{Global};
 ghost use mathlib.Core.Option.{none};
 ghost use Rattle.atomic_table.specs.Table.{step};
 ghost use Rattle.disk_ring.specs.Places.{IsSameSeat, IsProducer, IsConsumer, IsFilling, IsEmptying};
-ghost use Rattle.disk_ring.specs.Steps.{SawHead, SawTail, Shut};
+ghost use Rattle.disk_ring.specs.Steps.{GlancedAt, SawHead, SawTail, Shut};
 
-use crate::plays::{Append, Free, SeeHead, SeeTail, SetBit};
+use crate::plays::{Append, Free, GlanceAtTail, SeeHead, SeeTail, SetBit};
 use crate::ring_table::{HEAD, Place, RingTable, TAIL};
 use crate::roomy::Roomy;
 
@@ -68,6 +68,15 @@ pub(crate) fn look_at_tail<T: Roomy>(ring_table: &RingTable<T>, place: &mut Plac
         (step ring_table.now.shared.table_id.slots 1 0 0 none) place.old.me result place.new.me }
 {
     ring_table.shared.load::<SeeTail>(place, TAIL)
+}
+
+/// The consumer loads the tail word, and takes no slot.
+pub(crate) fn glance_at_tail<T: Roomy>(ring_table: &RingTable<T>, place: &mut Place<T>) -> u64
+    requires { IsConsumer ring_table.now.shared.table_id place.old }
+    ensures same { IsSameSeat place.old place.new }
+    ensures glanced { GlancedAt place.old.me result place.new.me }
+{
+    ring_table.shared.load::<GlanceAtTail>(place, TAIL)
 }
 
 /// The consumer takes the item out of the slot in its hand, leaves the husk there, and stores the

@@ -1,6 +1,6 @@
 -- A process goes on playing over a look of all tracks: each is looked at, what it promises stands, and so does its master.
 use Rattle.std.proofs.Common.{◌≡◌, ◌≢◌, ℕ, ◌<◌, ◌≤◌, List, [], ◌++◌, length, refl, ap, ◌∙◌, sym, subst, le_refl, slice_index_or, take, drop, arith}
-use Rattle.std.specs.Prelude.{◌==◌, if◌then◌else◌, true, nat_le, map, reverse, slice_get, Some}
+use Rattle.std.specs.Prelude.{Bool, ◌==◌, if◌then◌else◌, true, nat_le, map, reverse, slice_get, Some}
 use Rattle.std.specs.List.{list_all}
 use Rattle.std.specs.Option.{option_map}
 use Rattle.std.proofs.lemmas.List.{length-append, map-append, reverse-append, length-map}
@@ -30,14 +30,16 @@ use Rattle.track_playback.specs.declared.playback.SpareBox.{SpareBox}
 use Rattle.track_playback.specs.declared.playback.SpareBox.TheVariants.{Husk, Held, Lent}
 use Rattle.track_playback.specs.declared.playback.TrackPlayback.{TrackPlayback}
 use Rattle.track_playback.specs.declared.play_position.PlayPosition.{PlayPosition}
-use Rattle.track_playback.specs.Answers.{AllLook, HaveLookedUp}
+use Rattle.track_playback.specs.Answers.{AllLook, AllShow, HaveLookedUp, IsMissing, Waits}
 use Rattle.track_playback.specs.Heard.{AllLooked, IsStillHeld}
 use Rattle.track_playback.specs.Looks.{EndsWith}
 use Rattle.track_playback.specs.Played.{IsPlayed, AllPlayed, KnowsTheEnds}
 use Rattle.track_playback.specs.SpareBoxes.{received_items, received_kinds}
 use Rattle.track_playback.proofs.TrackLemmas.{plays_on, played_later}
+use Rattle.process_cycle.specs.declared.process.Look.{Look}
+use Rattle.process_cycle.specs.declared.process.Look.TheVariants.{Ready, Short}
 use Rattle.process_cycle.specs.Ends.{block_of}
-use Rattle.process_cycle.specs.Looked.{HasLooked, rolled_by_now}
+use Rattle.process_cycle.specs.Looked.{Finds, HasLooked, LookAnswers, LooksAtAll, rolled_by_now}
 use Rattle.process_cycle.specs.Playing.{IsPlaying}
 use Rattle.process_cycle.specs.ProcessState.{ProcessState, Playing, entered, entries_of, position_of, items_of}
 use Rattle.process_cycle.specs.Promised.{IsMastered}
@@ -202,6 +204,24 @@ looks_again at a a' d d' b b' e e' same_a same_d same_b same_e looks = subst (λ
 
 pub looked_up_again : (at : PlayPosition) (a a' b b' : List (Receiver Item)) → a ≡ a' → b ≡ b' → HaveLookedUp at a b → HaveLookedUp at a' b'
 looked_up_again at a a' b b' same_a same_b up = subst (λ l. HaveLookedUp at l b') same_a (subst (HaveLookedUp at a) same_b up)
+
+pub shows_again : (at : PlayPosition) (b b' : List (Receiver Item)) (e e' : List TrackPlayback) → b ≡ b' → e ≡ e' → AllShow at b e → AllShow at b' e'
+shows_again at b b' e e' same_b same_e shows = subst (λ l. AllShow at l e') same_b (subst (AllShow at b) same_e shows)
+
+-- a track whose piece wasn't received waits
+waits_where_missing : (at : PlayPosition) (a : List (Receiver Item)) (d : List TrackPlayback) (b : List (Receiver Item)) (e : List TrackPlayback) → AllLook at a d b e → length b ≡ length a → IsMissing at b → Waits at a b e
+waits_where_missing at a d b e looks many w = record {
+  track = w.0;
+  within = omega (arith, w.1, many);
+  missing = w.2;
+  ended = λ x y. (looks w.0 x y (omega (arith, w.1, many))).ends;
+}
+
+-- what a look answers, by what it found
+pub answers_of : {I W : Type 0} (rolling : Bool) (e : Edition) (old new : ProcessState I W) → LooksAtAll e old new → (answer : Look) → Finds rolling new answer → LookAnswers rolling old answer new
+answers_of rolling e old new looks Ready found = found
+answers_of rolling e old new looks Short found =
+    (found.0, waits_where_missing (position_of new) old.ends.plays.items old.playbacks new.ends.plays.items new.playbacks looks.looks looks.many found.1)
 
 pub played_again : (at : PlayPosition) (a a' : List (Receiver Item)) (d d' : List TrackPlayback) → a ≡ a' → d ≡ d' → AllPlayed at a d → AllPlayed at a' d'
 played_again at a a' d d' same_a same_d played = subst (λ l. AllPlayed at l d') same_a (subst (AllPlayed at a) same_d played)

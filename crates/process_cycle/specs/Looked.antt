@@ -11,7 +11,7 @@ use Rattle.disk_ring.specs.Receiver.{Receiver}
 use Rattle.piece_item.specs.declared.item.Item.{Item}
 use Rattle.track_playback.specs.declared.play_position.PlayPosition.{PlayPosition}
 use Rattle.track_playback.specs.SpareBoxes.{received_kinds}
-use Rattle.track_playback.specs.Answers.{AllLook, AllThere, Waits}
+use Rattle.track_playback.specs.Answers.{AllLook, AllThere, IsMissing, Waits}
 use Rattle.track_playback.specs.Heard.{AllLooked}
 use Rattle.process_cycle.specs.declared.process.Look.{Look}
 use Rattle.process_cycle.specs.declared.process.Look.TheVariants.{Ready, Short}
@@ -36,6 +36,11 @@ pub record LooksAtAll {I W : Type 0} (e : Edition) (old new : ProcessState I W) 
 abbrev pub LookAnswers : {I W : Type 0} → Bool → ProcessState I W → Look → ProcessState I W → Type 0
 LookAnswers rolling old Ready new = rolling ≡ true → AllThere (position_of new) new.ends.plays.items
 LookAnswers rolling old Short new = (rolling ≡ true) × Waits (position_of new) old.ends.plays.items new.ends.plays.items new.playbacks
+
+-- What it found: Ready, where the transport doesn't roll or each track has its piece; Short, where it rolls and one hasn't.
+abbrev pub Finds : {I W : Type 0} → Bool → ProcessState I W → Look → Type 0
+Finds rolling p Ready = rolling ≡ true → AllThere (position_of p) p.ends.plays.items
+Finds rolling p Short = (rolling ≡ true) × IsMissing (position_of p) p.ends.plays.items
 
 -- what a look doesn't touch
 pub record Keeps {I W : Type 0} (old new : ProcessState I W) : Type 0 where

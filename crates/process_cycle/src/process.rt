@@ -4,12 +4,10 @@ ghost use Rattle.std.specs.Prelude.{◌≡◌, ◌≤◌, IfOk, IfErr, IfSome};
 ghost use Rattle.std.specs.List.{list_any};
 ghost use Rattle.wav_codec.specs.Info.{IsFound};
 ghost use Rattle.process_cycle.specs.Ends.{AreNew};
-ghost use Rattle.process_cycle.specs.ProcessState.{Playing, entered};
-ghost use Rattle.process_cycle.specs.Promised.{IsMastered};
-ghost use Rattle.process_cycle.specs.Playing.{IsPlaying, HasBegun};
-ghost use Rattle.process_cycle.specs.Looked.{MayLook, HasLooked, Keeps, LookAnswers, LooksAtAll, rolled_by_now};
+ghost use Rattle.process_cycle.specs.Playing.{HasBegun};
 
 mod cycle;
+mod looking;
 mod parts;
 mod stores;
 
@@ -25,7 +23,7 @@ use std::alloc::Global;
 use std::marker::Model;
 use stores::{Stores, new_stores};
 use track_capture::TrackCapture;
-use track_playback::{PlayPosition, TrackPlayback, any_closed, look_at_all};
+use track_playback::{TrackPlayback, any_closed};
 use wav_codec::WavInfo;
 
 /// What a look of all tracks found.
@@ -128,50 +126,6 @@ impl<I: Source, W: Sink> Process<I, W> {
             to_butler,
             to_control,
         })
-    }
-
-    /// One look of each track, in an edition that goes on from the one given last. It takes no
-    /// memory, and waits for nobody.
-    pub fn gather(&mut self, e: &Edition) -> Look
-        ghost at: { Playing }
-        requires { MayLook I.outside at self.old e.now }
-        ensures playing { IsPlaying I.outside (entered e.now.edits at) self.new }
-        ensures looked { HasLooked (entered e.now.edits at) self.new }
-        ensures looks { LooksAtAll e.now self.old self.new }
-        ensures answer { LookAnswers e.now.transport.rolling self.old result self.new }
-        ensures keeps { Keeps self.old self.new }
-        ensures master { IsMastered W.outside at self.old
-            → IsMastered W.outside (entered e.now.edits at) self.new }
-    {
-        let transport = e.transport();
-        let at = PlayPosition {
-            depth: self.depth,
-            generation: transport.generation,
-            next: self.rolled_in(transport.generation),
-        };
-        let all = look_at_all(
-            self.ends.plays.as_mut_slice(),
-            self.playbacks.as_mut_slice(),
-            at,
-        );
-        self.generation = at.generation;
-        self.next = at.next;
-        if all || !transport.rolling {
-            Look::Ready
-        } else {
-            Look::Short
-        }
-    }
-
-    // How many entries rolled in a generation that isn't older than the one last given.
-    fn rolled_in(&self, generation: u32) -> u32
-        ensures { result ≡ rolled_by_now self.now generation }
-    {
-        if self.generation == generation {
-            self.next
-        } else {
-            0
-        }
     }
 
     /// The entries made so far.

@@ -45,6 +45,9 @@ pub(crate) fn serve<M: Media>(
     ensures read { IsReadOn M.outside reader.old.media reader.new.media
         reader.old.sources reader.new.sources result }
 {
+    if supply.has_nothing_due(pass, track) {
+        return Ok(0);
+    }
     for sent in 0..most {
         if !send_next(reader, pass, track, supply, end)? {
             return Ok(sent);

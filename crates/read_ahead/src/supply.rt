@@ -1,5 +1,10 @@
 //! What is had of one track, and what is read from.
+ghost use Rattle.std.specs.Prelude.{◌≡◌, ◌<◌, true, false, length, None, IsSome};
+ghost use Rattle.read_ahead.specs.SendProgress.{needs_of, now_due, target_of};
+
+use crate::pass::Pass;
 use crate::progress::SendProgress;
+use crate::target::TrackTarget;
 use audio_source::Sources;
 use piece_item::Item;
 use playlist_layers::Scratch;
@@ -13,6 +18,19 @@ pub struct TrackSupply {
     pub(crate) spare: Option<Box<Item>>,
     /// Whether the box holds an item that was made and found no room.
     pub(crate) made: bool,
+}
+
+impl TrackSupply {
+    /// Whether nothing is due of the track.
+    pub(crate) fn has_nothing_due(&self, pass: &Pass, track: u32) -> bool
+        requires { track < length pass.now.edition.session.tracks.items }
+        ensures none { result ≡ true
+            → now_due (needs_of (target_of pass.now track)) self.now.progress ≡ None }
+        ensures some { result ≡ false
+            → IsSome (now_due (needs_of (target_of pass.now track)) self.now.progress) }
+    {
+        self.progress.step(&TrackTarget::of(pass, track)).is_none()
+    }
 }
 
 /// What samples are read from, and the memory that this takes.

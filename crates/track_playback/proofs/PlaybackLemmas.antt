@@ -9,18 +9,20 @@ use Rattle.engine_model.specs.Items.{newest}
 use Rattle.engine_model.specs.Cycle.{has_piece}
 use Rattle.piece_item.specs.declared.item.Item.{Item}
 use Rattle.piece_item.specs.Views.{item_of, kind_of}
-use Rattle.disk_ring.specs.Receiver.{Receiver}
-use Rattle.disk_ring.proofs.GoesOn.{goes_on_out_refl}
+use mathlib.Core.List.{IsPrefix}
+use base.Growing.{prefix_trans}
+use Rattle.disk_ring.specs.Receiver.{FoundEmpty, FoundMore, GoesOnOut, Receiver}
+use Rattle.disk_ring.proofs.GoesOn.{goes_on_out_refl, goes_on_out_trans}
 use Rattle.play_window.specs.Answers.{TakesIn}
 use Rattle.play_window.specs.Laws.{Shows}
 use Rattle.play_window.specs.Offers.{Offered, kinds, last_generation, last_next, piece_of}
 use Rattle.play_window.specs.WindowState.{WindowState, IsWindowOf, IsNoEarlier}
 use Rattle.play_window.proofs.ShowLemmas.{windows_show_the_newest}
 use Rattle.track_playback.specs.declared.playback.SpareBox.{SpareBox}
-use Rattle.track_playback.specs.declared.playback.SpareBox.TheVariants.{Husk, Held}
+use Rattle.track_playback.specs.declared.playback.SpareBox.TheVariants.{Husk, Held, Lent}
 use Rattle.track_playback.specs.declared.playback.TrackPlayback.{TrackPlayback}
 use Rattle.track_playback.specs.declared.play_position.PlayPosition.{PlayPosition}
-use Rattle.track_playback.specs.SpareBoxes.{held, HasRoom, received_items, offers, HoldsTheLast}
+use Rattle.track_playback.specs.SpareBoxes.{held, HasHusk, HasRoom, received_items, offers, HoldsTheLast}
 use Rattle.track_playback.specs.Looks.{EndsWith, HasAllTold, Offers, Looks, holds, offered}
 use Rattle.track_playback.proofs.ListLemmas.{past_front, all_and_last}
 
@@ -86,6 +88,28 @@ module _ (at : PlayPosition) (a : Receiver Item) (d : TrackPlayback) (b : Receiv
         told = told;
       }
 
+-- ---- how a look ends, by what its box is
+
+ends_empty : (at : PlayPosition) (a b : Receiver Item) (spare : SpareBox) → HasHusk spare → b.tails ≡ a.tails ++ length b.received ∷ [] → EndsWith at a b spare
+ends_empty at a b (Husk box) husk noted = noted
+ends_empty at a b (Held box) husk noted = absurd husk
+ends_empty at a b Lent husk noted = absurd husk
+
+told_all : (a b : Receiver Item) (spare : SpareBox) → HasHusk spare → IsPrefix a.heard b.received → HasAllTold a b spare
+told_all a b (Husk box) husk heard = heard
+told_all a b (Held box) husk heard = absurd husk
+told_all a b Lent husk heard = absurd husk
+
+ends_likewise : (at : PlayPosition) (a m b : Receiver Item) (spare : SpareBox) → m.tails ≡ a.tails → EndsWith at m b spare → EndsWith at a b spare
+ends_likewise at a m b (Husk box) same ends = ends ∙ ap (λ l. l ++ length b.received ∷ []) same
+ends_likewise at a m b (Held box) same ends = (ends.0, ends.1 ∙ same)
+ends_likewise at a m b Lent same ends = ends
+
+told_likewise : (a m b : Receiver Item) (spare : SpareBox) → IsPrefix a.heard m.heard → HasAllTold m b spare → HasAllTold a b spare
+told_likewise a m b (Husk box) more told = prefix_trans a.heard m.heard b.received more told
+told_likewise a m b (Held box) more told = tt
+told_likewise a m b Lent more told = told
+
 -- the item of the spare box is still held
 pub looks_at_held : (at : PlayPosition) (a : Receiver Item) (d : TrackPlayback) (item : Box Item Global) → d.spare ≡ Held item → holds at (kind_of item.value.kind) ≡ true
     → HoldsTheLast a d.spare → HasRoom d.window.samples d.spare → IsNoEarlier d.window.generation d.window.next at.generation at.next → d.tail ≡ length a.received → d.closed ≡ a.ended
@@ -105,6 +129,47 @@ looks_at_held at a d item was still last room until tail closed = record {
   closed = closed;
   ends = (still, refl);
   told = tt;
+}
+
+-- ---- a look of a box that may be filled, where the ring was asked before
+
+-- nothing was there
+pub looks_at_nothing : (at : PlayPosition) (a b : Receiver Item) (d : TrackPlayback) → HasHusk d.spare → GoesOnOut a b → FoundEmpty a (length a.received) b → HoldsTheLast a d.spare
+    → HasRoom d.window.samples d.spare → IsNoEarlier d.window.generation d.window.next at.generation at.next → d.tail ≡ length a.received → d.closed ≡ a.ended → Looks at a d b d
+looks_at_nothing at a b d husk on found last room until tail closed = let was = found.tails in let same : b.received ≡ a.received = ap (λ r. r.received) was in record {
+  taken = [];
+  offers = ap (λ r. offers r d.spare) was;
+  free = refl;
+  window = λ os is. is;
+  depth = refl;
+  samples = refl;
+  until = until;
+  ring = on;
+  last = subst (λ r. HoldsTheLast r d.spare) (sym was) last;
+  room = room;
+  tail = tail ∙ ap length (sym same);
+  closed = closed ∙ sym (ap (λ r. r.ended) was);
+  ends = ends_empty at a b d.spare husk (ap (λ r. r.tails) was ∙ ap (λ (l : List Item). a.tails ++ length l ∷ []) (sym same));
+  told = told_all a b d.spare husk (subst (IsPrefix a.heard) (sym same) found.heard);
+}
+
+-- something was, which the end was told of
+pub looks_at_more : (at : PlayPosition) (a m b : Receiver Item) (d e : TrackPlayback) → GoesOnOut a m → FoundMore a m → Looks at m d b e → Looks at a d b e
+looks_at_more at a m b d e on found looks = record {
+  taken = looks.taken;
+  offers = looks.offers ∙ ap (λ r. looks.taken ++ offers r d.spare) found.tells;
+  free = looks.free;
+  window = looks.window;
+  depth = looks.depth;
+  samples = looks.samples;
+  until = looks.until;
+  ring = goes_on_out_trans a m b on looks.ring;
+  last = looks.last;
+  room = looks.room;
+  tail = looks.tail;
+  closed = looks.closed;
+  ends = ends_likewise at a m b e.spare (ap (λ r. r.tails) found.tells) looks.ends;
+  told = told_likewise a m b e.spare on.heard looks.told;
 }
 
 -- ---- what is shown

@@ -11,7 +11,7 @@ use Rattle.play_window.specs.Offers.{Offered, kinds}
 use Rattle.play_window.specs.WindowState.{IsNoEarlier, IsWindowOf}
 use Rattle.track_playback.specs.declared.playback.TrackPlayback.{TrackPlayback}
 use Rattle.track_playback.specs.declared.play_position.PlayPosition.{PlayPosition}
-use Rattle.track_playback.specs.Answers.{AllShow, IsMissing, Waits, is_there}
+use Rattle.track_playback.specs.Answers.{AllShow, IsMissing, is_there}
 use Rattle.track_playback.specs.Looks.{Looks}
 use Rattle.track_playback.specs.Played.{AllPlayed, IsPlayed}
 use Rattle.track_playback.proofs.TrackLemmas.{plays_on, told_by_all}
@@ -41,15 +41,6 @@ module _ (at : PlayPosition) (a : List (Receiver Item)) (d : List TrackPlayback)
           until = (plays_on at was.0 _ _ _ _ was.1 looks).until;
           tells = λ there shown. told_by_all at was.0 _ _ _ _ was.1 looks there some shown;
         };
-  }
-
-  -- and one whose piece wasn't received waits
-  pub waits_now : length d ≡ length a → n ≡ length d → IsMissing at b → Waits at a b e
-  waits_now count whole w = record {
-    track = w.0;
-    within = omega (arith, w.1, below.plays);
-    missing = w.2;
-    ended = λ x y. (below.looked w.0 x y (omega (arith, w.1, below.plays, count, whole))).ends;
   }
 
 -- ---- the windows are asked, the last one first

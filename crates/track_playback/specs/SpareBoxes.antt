@@ -1,6 +1,6 @@
 -- What was received of a track and offered to its window, and the box that the process has to spare. Lists of items stand
 -- newest first.
-use Rattle.std.specs.Prelude.{◌≡◌, ℕ, List, [], ◌∷◌, ◌++◌, length, map, drop, reverse}
+use Rattle.std.specs.Prelude.{◌≡◌, ℕ, List, [], ◌∷◌, ◌++◌, length, map, drop, reverse, ⊤}
 use Rattle.engine_model.specs.Items as engine
 use Rattle.piece_item.specs.declared.item.Item.{Item}
 use Rattle.piece_item.specs.Views.{item_of}
@@ -19,6 +19,12 @@ abbrev pub HasRoom : ℕ → SpareBox → Type 0
 HasRoom samples (Husk b) = length b.value.samples.items ≡ samples
 HasRoom samples (Held b) = length b.value.samples.items ≡ samples
 HasRoom samples Lent = ⊥
+
+-- it is a box that may be filled again
+abbrev pub HasHusk : SpareBox → Type 0
+HasHusk (Husk b) = ⊤
+HasHusk (Held b) = ⊥
+HasHusk Lent = ⊥
 
 -- it is a box of so many samples that may be filled again
 abbrev pub IsHusk : ℕ → SpareBox → Type 0

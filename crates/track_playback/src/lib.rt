@@ -16,4 +16,4 @@ mod playbacks;
 pub use noting::entry;
 pub use play_position::PlayPosition;
 pub use playback::{SpareBox, TrackPlayback};
-pub use playbacks::{any_closed, heard_block, look_at_all, new_playbacks};
+pub use playbacks::{all_there, any_closed, heard_block, look_at_all, new_playbacks};

@@ -1,10 +1,10 @@
 //! What the process keeps of one track beside its ring, and how it looks at the track.
-ghost use Rattle.std.specs.Prelude.{◌≡◌, List, length};
+ghost use Rattle.std.specs.Prelude.{◌≡◌, true, false, List, length};
 ghost use Rattle.engine_model.specs.Cycle.{has_piece};
 ghost use Rattle.play_window.specs.Offers.{Offered, kinds};
 ghost use Rattle.play_window.specs.WindowState.{IsWindowOf, IsNoEarlier};
 ghost use Rattle.track_playback.specs.Answers.{is_there};
-ghost use Rattle.track_playback.specs.SpareBoxes.{HasRoom, HoldsTheLast};
+ghost use Rattle.track_playback.specs.SpareBoxes.{HasHusk, HasRoom, HoldsTheLast};
 ghost use Rattle.track_playback.specs.Looks.{Looks};
 ghost use Rattle.track_playback.specs.Played.{ShowsOffers};
 
@@ -67,6 +67,14 @@ impl TrackPlayback {
         self.spare = spare;
         self.closed = closed;
         self.tail = ring.received();
+    }
+
+    /// Whether its spare box may be filled.
+    pub(crate) fn has_husk(&self) -> bool
+        ensures husk { result ≡ true → HasHusk self.now.spare }
+        ensures none { result ≡ false → ¬ HasHusk self.now.spare }
+    {
+        matches!(self.spare, SpareBox::Husk(_))
     }
 
     /// Whether the piece that is played next is in the window.

@@ -8,11 +8,11 @@ ghost use Rattle.session_model.specs.Formed.{channels_at};
 ghost use Rattle.engine_model.specs.Mixed.{newest_samples};
 ghost use Rattle.disk_ring.specs.Receiver.{Receiver};
 ghost use Rattle.piece_item.specs.declared.item.Item.{Item as ItemRecord};
-ghost use Rattle.track_playback.specs.Answers.{AllLook, AllShow, AllThere, HaveLookedUp, IsMissing, Waits};
+ghost use Rattle.track_playback.specs.Answers.{AllLook, AllShow, AllThere, HaveLookedUp, IsMissing};
 ghost use Rattle.track_playback.specs.Heard.{AreHeard};
 ghost use Rattle.track_playback.specs.Looks.{Looks};
 ghost use Rattle.track_playback.specs.Played.{AllPlayed, IsNewPlayback, IsPlayed, KnowsTheEnds};
-ghost use Rattle.track_playback.specs.SpareBoxes.{received_items};
+ghost use Rattle.track_playback.specs.SpareBoxes.{HasHusk, received_items};
 
 use crate::play_position::PlayPosition;
 use crate::playback::{SpareBox, TrackPlayback};
@@ -23,18 +23,35 @@ use ses_io::NoMemory;
 use session_model::Session;
 use std::alloc::Global;
 
-// One look of a track.
-fn look_at(ring: &mut RingOut<Item>, playback: &mut TrackPlayback, at: PlayPosition)
-    requires played { (samples : ℕ) × IsPlayed at samples ring.old playback.old }
+// One look of a track whose spare box may be filled: most find nothing.
+fn look_for_more(ring: &mut RingOut<Item>, playback: &mut TrackPlayback, at: &PlayPosition)
+    requires played { (samples : ℕ) × IsPlayed at.now samples ring.old playback.old }
     requires closed { playback.old.closed ≡ ring.old.ended }
-    ensures { Looks at ring.old playback.old ring.new playback.new }
+    requires husk { HasHusk playback.old.spare }
+    ensures { Looks at.now ring.old playback.old ring.new playback.new }
 {
-    playback.look(ring, at);
+    if ring.is_empty() {
+        return;
+    }
+    playback.look(ring, *at);
 }
 
-// Whether each track has the piece that is played next. Tracks are served in their order, so the
-// last one is asked first.
-fn all_there(plays: &[RingOut<Item>], playbacks: &[TrackPlayback], at: PlayPosition) -> bool
+// One look of a track.
+fn look_at(ring: &mut RingOut<Item>, playback: &mut TrackPlayback, at: &PlayPosition)
+    requires played { (samples : ℕ) × IsPlayed at.now samples ring.old playback.old }
+    requires closed { playback.old.closed ≡ ring.old.ended }
+    ensures { Looks at.now ring.old playback.old ring.new playback.new }
+{
+    if !playback.has_husk() {
+        playback.look(ring, *at);
+        return;
+    }
+    look_for_more(ring, playback, at);
+}
+
+/// Whether each track has the piece that is played next. Tracks are served in their order, so the
+/// last one is asked first.
+pub fn all_there(plays: &[RingOut<Item>], playbacks: &[TrackPlayback], at: PlayPosition) -> bool
     requires { AllShow at plays.now playbacks.now }
     ensures there { result ≡ true → AllThere at plays.now }
     ensures missing { result ≡ false → IsMissing at plays.now }
@@ -49,25 +66,18 @@ fn all_there(plays: &[RingOut<Item>], playbacks: &[TrackPlayback], at: PlayPosit
     true
 }
 
-/// One look of each track, and whether each has the piece that is played next. It takes no memory,
-/// and waits for nobody.
-pub fn look_at_all(
-    plays: &mut [RingOut<Item>],
-    playbacks: &mut [TrackPlayback],
-    at: PlayPosition,
-) -> bool
+/// One look of each track. It takes no memory, and waits for nobody.
+pub fn look_at_all(plays: &mut [RingOut<Item>], playbacks: &mut [TrackPlayback], at: PlayPosition)
     requires some { 0 < at.depth }
     requires played { AllPlayed at plays.old playbacks.old }
     requires closed { KnowsTheEnds plays.old playbacks.old }
     ensures looks { AllLook at plays.old playbacks.old plays.new playbacks.new }
     ensures looked_up { HaveLookedUp at plays.old plays.new }
-    ensures there { result ≡ true → AllThere at plays.new }
-    ensures waits { result ≡ false → Waits at plays.old plays.new playbacks.new }
+    ensures shows { AllShow at plays.new playbacks.new }
 {
     for t in 0..playbacks.len() {
-        look_at(&mut plays[t], &mut playbacks[t], at);
+        look_at(&mut plays[t], &mut playbacks[t], &at);
     }
-    all_there(plays, playbacks, at)
 }
 
 // The playback of a track that nothing was received of.

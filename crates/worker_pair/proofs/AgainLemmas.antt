@@ -1,7 +1,6 @@
 -- Ends that know all of each other may meet again once one of each pair has gone on: where their counts agree nothing moved.
 use Rattle.std.proofs.Common.{◌≡◌, inl, inr, ℕ, ◌+◌, ◌^◌, ◌≤◌, List, [], ◌∷◌, length, append-nil, sym, ap, subst, arith, ◌∙◌}
 use Rattle.std.specs.Prelude.{ℤ, slice_get, slice_index_or, Some}
-use Rattle.std.proofs.lemmas.Bool.{true≢false}
 use Rattle.std.proofs.lemmas.Option.{slice_get-get_or}
 use mathlib.Core.List.{IsPrefix}
 use base.Growing.{prefix_refl}
@@ -34,12 +33,12 @@ module _ {T : Type 0} where
     depth = know.depth ∙ sym on.depth;
     passed = record {
       begins = subst (IsPrefix b.received) same was.begins;
-      all = λ ended. absurd (true≢false (sym ended ∙ agree.not_ended));
+      all = λ ended. (sym agree.over ∙ (agree.ended ended).0, (was.all ended).1 ∙ same);
       within = subst (λ n. length c.sent ≤ length b.received + n) (sym on.depth) (subst (λ l. length l ≤ length b.received + a.depth) same was.within);
       small = subst (λ l. length l ≤ 2 ^ 62) same was.small;
     };
     heard = subst (IsPrefix b.heard) (know.heard ∙ same) (prefix_refl b.heard);
-    over = λ over. absurd (true≢false (sym over ∙ agree.not_over));
+    over = λ over. (sym agree.over ∙ over, know.heard ∙ same);
     got = omega (arith, agree.got);
   }
 
@@ -50,12 +49,12 @@ module _ {T : Type 0} where
         depth = on.depth ∙ know.depth;
         passed = record {
           begins = subst (λ l. IsPrefix l a.sent) same was.begins;
-          all = λ ended. absurd (true≢false (sym ended ∙ agree.not_ended));
+          all = λ ended. (sym agree.over ∙ (agree.ended ended).0, sym (agree.ended ended).1 ∙ sym told ∙ know.heard);
           within = subst (λ l. length a.sent ≤ length l + a.depth) same was.within;
           small = was.small;
         };
         heard = subst (IsPrefix d.heard) (sym told ∙ know.heard) (prefix_refl d.heard);
-        over = λ over. absurd (true≢false (sym over ∙ agree.not_over));
+        over = λ over. (sym agree.over ∙ over, sym told ∙ know.heard);
         got = omega (arith, agree.got);
       }
 

@@ -1,8 +1,7 @@
 -- The rings that an ended process leaves: its ends that put are closed, and all ends have met.
-use Rattle.std.proofs.Common.{◌≡◌, ℕ, ◌<◌, List, length, refl, sym, ap, subst, ◌∙◌, arith}
+use Rattle.std.proofs.Common.{◌≡◌, ℕ, ◌<◌, List, [], length, refl, sym, ap, subst, ◌∙◌, arith, append-nil}
 use Rattle.std.specs.Prelude.{map, reverse, slice_get, Some}
 use Rattle.std.specs.Option.{option_map}
-use Rattle.std.proofs.lemmas.Bool.{true≢false}
 use Rattle.std.proofs.lemmas.List.{get_or-map, length-map}
 use Rattle.std.proofs.lemmas.Option.{slice_get_within, slice_get-map, same_Some}
 use Rattle.ses_io.specs.Outside.{MediaOutside}
@@ -20,7 +19,7 @@ use Rattle.butler.specs.ButlerState.{Rested}
 use Rattle.butler.specs.Serving.{AreStocked}
 use Rattle.butler.proofs.MeetingLemmas.{meeting_keeps}
 use Rattle.process_cycle.specs.declared.ends.ProcessEnds.{ProcessEnds}
-use Rattle.process_cycle.specs.Ends.{AllStillMet, AreOfOneRing, AreOtherEnds, EndsMeet, MayMeet, Meet, shut, shut_ends}
+use Rattle.process_cycle.specs.Ends.{AreOfOneRing, AreOtherEnds, EndsMeet, MayMeet, Meet, shut, shut_ends}
 use Rattle.worker_pair.specs.declared.ending.Ending.{Ending}
 use Rattle.worker_pair.specs.declared.ending.Stopped.{Stopped}
 use Rattle.worker_pair.specs.declared.pair.Pair.{Pair}
@@ -30,7 +29,7 @@ use Rattle.worker_pair.specs.Met.{HaveMet}
 use Rattle.worker_pair.specs.Never.{NothingIsTaken}
 use Rattle.worker_pair.specs.Runs.{HasControl, Serves}
 use Rattle.worker_pair.specs.Tied.{AreRingsOf, IsTrackOf, IsUntaken, rings_of}
-use Rattle.worker_pair.proofs.AgainLemmas.{all_known}
+use Rattle.worker_pair.proofs.AgainLemmas.{PutsOn, all_in, all_known, still_in}
 use Rattle.worker_pair.proofs.MetLemmas.{are_told, acks_met, rings_met, serves_met, with_ends}
 
 -- ---- closed ends
@@ -64,16 +63,17 @@ still_one_ring xs ys one = record {
 pub others_shut : (ours : ProcessEnds) (theirs : ButlerEnds) → AreOtherEnds ours theirs → AreOtherEnds (shut_ends ours) theirs
 others_shut ours theirs others = record { plays = others.plays; takes = still_one_ring ours.takes.items theirs.takes.items others.takes; acks = others.acks }
 
--- they may meet again: the counts of a closed ring don't agree
-shut_met : {T : Type 0} (xs : List (Sender T)) (ys : List (Receiver T)) → AllStillMet (map shut xs) ys
-shut_met {T} xs ys t l r hl hr agree = let k = was_open xs t l hl in absurd (true≢false (sym (ap (λ (z : Sender T). z.closed) k.is) ∙ agree.still_open))
+-- a ring that is closed puts on
+puts_shut : {T : Type 0} (a c : Sender T) → c ≡ shut a → PutsOn a c
+puts_shut a c is = record { depth = ap (λ z. z.depth) is; sent = ([], append-nil a.sent ∙ sym (ap (λ z. z.sent) is)) }
 
+-- so they may meet again
 pub may_meet_shut : (ours : ProcessEnds) (theirs : ButlerEnds) → AreOtherEnds ours theirs → HaveMet ours theirs → MayMeet (shut_ends ours) theirs
-may_meet_shut ours theirs others met = record {
+may_meet_shut ours theirs others met = let xs = ours.takes.items in record {
   others = others_shut ours theirs others;
   plays = all_known theirs.sends.items ours.plays.items met.plays;
-  takes = shut_met ours.takes.items theirs.takes.items;
-  acks = λ agree. absurd (true≢false agree.still_open);
+  takes = all_in xs (map shut xs) theirs.takes.items met.takes (length-map xs shut) (λ t x y hx hy. puts_shut x y (same_Some y (shut x) (sym hy ∙ shut_at xs t x hx)));
+  acks = still_in ours.to_butler (shut ours.to_butler) theirs.acks met.acks (puts_shut ours.to_butler (shut ours.to_butler) refl);
 }
 
 -- nothing was captured, closed or not

@@ -1,7 +1,7 @@
 -- What stands of a pair whose process has looked at each track, once the ends have met.
 use Rattle.std.proofs.Common.{◌≡◌, ℕ, ◌<◌, List, length, drop, take, refl, sym, ap, subst, arith, ◌∙◌, le_refl}
 use Rattle.std.proofs.Math.Seq.{take-append_seam}
-use Rattle.std.specs.Prelude.{Bool, true, false, slice_get, slice_index_or, Some}
+use Rattle.std.specs.Prelude.{true, false, slice_get, slice_index_or, Some}
 use Rattle.std.proofs.lemmas.List.{take-append-drop, take-append-le}
 use Rattle.std.proofs.lemmas.Option.{get_or_from_slice_get, slice_get_within}
 use mathlib.Core.List.{IsPrefix}
@@ -17,20 +17,12 @@ use Rattle.disk_ring.specs.Sender.{Sender}
 use Rattle.disk_ring.specs.Receiver.{Receiver, GoesOnOut}
 use Rattle.piece_item.specs.declared.butler_ends.ButlerEnds.{ButlerEnds}
 use Rattle.piece_item.specs.declared.item.Item.{Item}
-use Rattle.track_playback.specs.declared.playback.SpareBox.{SpareBox}
-use Rattle.track_playback.specs.declared.playback.SpareBox.TheVariants.{Husk, Held, Lent}
-use Rattle.track_playback.specs.declared.playback.TrackPlayback.{TrackPlayback}
-use Rattle.track_playback.specs.declared.play_position.PlayPosition.{PlayPosition}
-use Rattle.track_playback.specs.Answers.{is_there}
-use Rattle.track_playback.specs.Looks.{EndsWith}
 use Rattle.process_cycle.specs.declared.ends.ProcessEnds.{ProcessEnds}
-use Rattle.process_cycle.specs.declared.process.Look.{Look}
-use Rattle.process_cycle.specs.declared.process.Look.TheVariants.{Ready, Short}
 use Rattle.process_cycle.specs.Ends.{AllMeet, AreOfOneRing, AreOtherEnds, EndsMeet, MayMeetPlays, Meet}
-use Rattle.process_cycle.specs.Looked.{Keeps, LookAnswers, LooksAtAll}
+use Rattle.process_cycle.specs.Looked.{Keeps, LooksAtAll}
 use Rattle.process_cycle.specs.Playing.{IsPlaying}
 use Rattle.process_cycle.specs.Promised.{IsMastered}
-use Rattle.process_cycle.specs.ProcessState.{ProcessState, entries_of, position_of}
+use Rattle.process_cycle.specs.ProcessState.{ProcessState, entries_of}
 use Rattle.worker_pair.specs.declared.ending.Ending.{Ending}
 use Rattle.worker_pair.specs.declared.pair.Pair.{Pair}
 use Rattle.worker_pair.specs.Begun.{At, looked, playing_at}
@@ -147,49 +139,6 @@ module _ {V I W : Type 0} (media : MediaOutside V) (inputs : SourceOutside I) (s
     -- it was the process's look, and the meeting
     pub looks_so : Looks old after_look
     looks_so = record { process = q; looks = looks; keeps = keeps; met = record { ends = meet; butler = refl; process_is = refl }; same = refl }
-
-    -- ---- what it answers
-
-    -- an end that was told more holds the same
-    told : (t : ℕ) (x : Receiver Item) → t < length q.ends.plays.items → (heard : List Item) × (over : Bool) × (slice_index_or ours.plays.items t x ≡ record (slice_index_or q.ends.plays.items t x)
-        { heard = heard; over = over })
-    told t x within = let here : t < length old.butler.ends.sends.items = omega (arith, within, plays_same.count) in let a = item_at old.butler.ends.sends.items t here in
-        ((slice_index_or old.butler.ends.sends.items t a.0).sent, (slice_index_or old.butler.ends.sends.items t a.0).closed, (meet.plays.each t a.0 x here).receiver)
-
-    -- a piece that was there still is
-    still_there : (place : PlayPosition) (t : ℕ) (x : Receiver Item) → t < length q.ends.plays.items →
-        is_there place (slice_index_or ours.plays.items t x) ≡ is_there place (slice_index_or q.ends.plays.items t x)
-    still_there place t x within = ap (is_there place) (told t x within).2
-
-    -- whatever they were told, they end as they ended
-    still_ends : (place : PlayPosition) (a : Receiver Item) (t : ℕ) (x : Receiver Item) (y : TrackPlayback) → t < length q.ends.plays.items → EndsWith place a (slice_index_or q.ends.plays.items t x) y.spare →
-        EndsWith place a (slice_index_or ours.plays.items t x) y.spare
-    still_ends place a t x y within ends = subst (λ z. EndsWith place a z y.spare) (sym (told t x within).2) (ends_told y.spare ends)
-      where
-        heard : List Item
-        heard = (told t x within).0
-
-        over : Bool
-        over = (told t x within).1
-
-        ends_told : (spare : SpareBox) → EndsWith place a (slice_index_or q.ends.plays.items t x) spare → EndsWith place a (record (slice_index_or q.ends.plays.items t x) { heard = heard; over = over }) spare
-        ends_told (Husk box) e = e
-        ends_told (Held box) e = e
-        ends_told Lent e = e
-
-    -- so the answer is true after the meeting too
-    pub answers_met : (rolling : Bool) (answer : Look) → LookAnswers rolling old.process answer q → LookAnswers rolling old.process answer (record q { ends = ours })
-    answers_met rolling Ready all = λ rolls t x within. let here : t < length q.ends.plays.items = omega (arith, within, meet.plays.receivers) in
-        still_there (position_of q) t x here ∙ all rolls t x here
-    answers_met rolling Short waits = (
-      waits.0,
-      let w = waits.1 in let here : w.track < length q.ends.plays.items = omega (arith, w.within, looks.many) in record {
-        track = w.track;
-        within = w.within;
-        missing = λ x. still_there (position_of q) w.track x here ∙ w.missing x;
-        ended = λ x y. still_ends (position_of q) (slice_index_or old.process.ends.plays.items w.track x) w.track x (slice_index_or q.playbacks w.track y) here (w.ended x y);
-      },
-    )
 
     -- ---- the core machine
 

@@ -5,7 +5,7 @@ ghost use Rattle.ses_io.specs.Outside.{Writes};
 ghost use Rattle.master_blocks.specs.Bytes.{head_bytes, end_bytes};
 ghost use Rattle.process_cycle.specs.declared.fault.CycleFault.TheVariants.{MasterFault};
 ghost use Rattle.process_cycle.specs.Ends.{MayMeetPlays};
-ghost use Rattle.process_cycle.specs.Looked.{HasLooked, LookAnswers};
+ghost use Rattle.process_cycle.specs.Looked.{HasLooked};
 ghost use Rattle.process_cycle.specs.Playing.{IsPlaying};
 ghost use Rattle.process_cycle.specs.ProcessState.{Playing};
 ghost use Rattle.process_cycle.specs.Promised.{IsMastered};
@@ -15,7 +15,7 @@ ghost use Rattle.worker_pair.specs.Steps.{EndsAsMachine, LooksAsMachine};
 ghost use Rattle.worker_pair.specs.Plays.{Cycles, Looks, MayCycle, MeetsAfter, OnlyTheMaster};
 
 use crate::pair::Pair;
-use process_cycle::{CycleFault, Look};
+use process_cycle::CycleFault;
 use ses_io::{Media, Sink, Source};
 
 impl<M: Media, I: Source, W: Sink> Pair<M, I, W> {
@@ -38,7 +38,7 @@ impl<M: Media, I: Source, W: Sink> Pair<M, I, W> {
 
     /// One look of the process at each track in the edition that it entered, where a cycle is
     /// open, and a meeting of the ends.
-    pub fn look(&mut self) -> Look
+    pub fn look(&mut self)
         ghost at: { At }
         requires runs { Runs M.outside I.outside W.outside at self.old }
         requires in_cycle { self.old.in_cycle ≡ true }
@@ -47,14 +47,11 @@ impl<M: Media, I: Source, W: Sink> Pair<M, I, W> {
         ensures looked { HasLooked (playing_at (looked self.old.playing.edits at))
             self.new.process }
         ensures looks { Looks self.old self.new }
-        ensures answer { LookAnswers self.old.playing.transport.rolling self.old.process result
-            self.new.process }
         ensures as_machine { LooksAsMachine at.begun.session self.old self.new }
     {
         self.played = self.playing.number();
-        let answer = self.process.gather(&self.playing);
+        self.process.look(&self.playing);
         self.meet();
-        answer
     }
 
     // The ends of playback rings tell each other what they know. Nothing else changes.

@@ -122,7 +122,7 @@ impl<I: Source, W: Sink> Process<I, W> {
     }
 
     // Where it plays.
-    fn position(&self) -> PlayPosition
+    pub(super) fn position(&self) -> PlayPosition
         ensures { result ≡ position_of self.now }
     {
         PlayPosition {

@@ -6,13 +6,13 @@ use Rattle.capture_flush.specs.Taking.{Taking, last_of}
 use Rattle.capture_flush.specs.Flushed.{Tape, IsFlushed, IsFlushedInPart, due}
 use Rattle.capture_drain.specs.Files.{tape_of}
 use Rattle.capture_drain.proofs.TapeLemmas.{tape_same, tape_taken}
-use Rattle.capture_drain.proofs.RingLemmas.{received_more}
+use Rattle.capture_drain.proofs.RingLemmas.{received_since}
 use Rattle.capture_drain.proofs.MediaLemmas.{writes_block, writes_part, given_in_part}
 use Rattle.capture_drain.proofs.one_ring.drain_one.Goals as goal
 
 pub returns-in_err-answer-in-Ok-clause-given : goal.returns-in_err-answer-in-Ok-clause-given
 returns-in_err-answer-in-Ok-clause-given g c tells old = let x = c.deref.result.now in
-    let more : c.take-2.new.self.received ≡ c.args.ring.now.received ++ x ∷ [] = received_more c.args.ring.now c.take-2.new.self c.in-Ok.block.value x c.in-Ok.ensures.answer.received c.deref.ensures in
+    let more : c.take-2.new.self.received ≡ c.args.ring.now.received ++ x ∷ [] = received_since c.args.ring.now c.is_empty.new.self c.take-2.new.self (c.is_empty.ensures.more c.if-is_empty.false) c.in-Ok.block.value x c.in-Ok.ensures.answer.received c.deref.ensures in
     let says = c.in_err-answer-in-Ok.ensures in
     let P : Tape → Type 0 = λ tape. IsFlushedInPart tape (g.M.Media.outside.files c.block-answer.new.media) in
     let taken = tape_taken g.at.run g.at.rings c.args.track c.args.ring.now c.take-2.new.self x c.requires.1.1.here more in
@@ -31,19 +31,19 @@ returns-in_err-answer-in-Ok-clause-given g c tells old = let x = c.deref.result.
 
 pub returns-in_err-answer-in-Ok-clause-media : goal.returns-in_err-answer-in-Ok-clause-media
 returns-in_err-answer-in-Ok-clause-media g c = let x = c.deref.result.now in
-    let more : c.take-2.new.self.received ≡ c.args.ring.now.received ++ x ∷ [] = received_more c.args.ring.now c.take-2.new.self c.in-Ok.block.value x c.in-Ok.ensures.answer.received c.deref.ensures in
+    let more : c.take-2.new.self.received ≡ c.args.ring.now.received ++ x ∷ [] = received_since c.args.ring.now c.is_empty.new.self c.take-2.new.self (c.is_empty.ensures.more c.if-is_empty.false) c.in-Ok.block.value x c.in-Ok.ensures.answer.received c.deref.ensures in
     writes_part g.M.Media.outside g.at.run.session g.at.rings c.args.track x.take c.args.ring.now c.take-2.new.self x _ c.args.media.now c.block-answer.new.media c.in_err-answer-in-Ok.field-0.0 c.from_residual.result c.from_residual.ensures.0
     c.requires.1.1.track c.requires.1.1.here more c.in_err-answer-in-Ok.ensures.adds
 
 pub returns-in_ok-answer-in-Ok-clause-given : goal.returns-in_ok-answer-in-Ok-clause-given
 returns-in_ok-answer-in-Ok-clause-given g c tells old = let x = c.deref.result.now in
-    let more : c.take-2.new.self.received ≡ c.args.ring.now.received ++ x ∷ [] = received_more c.args.ring.now c.take-2.new.self c.in-Ok.block.value x c.in-Ok.ensures.answer.received c.deref.ensures in
+    let more : c.take-2.new.self.received ≡ c.args.ring.now.received ++ x ∷ [] = received_since c.args.ring.now c.is_empty.new.self c.take-2.new.self (c.is_empty.ensures.more c.if-is_empty.false) c.in-Ok.block.value x c.in-Ok.ensures.answer.received c.deref.ensures in
     let P : Tape → Type 0 = λ tape. IsFlushed tape c.block-answer.new.self (g.M.Media.outside.files c.block-answer.new.media) in
     subst P (tape_taken g.at.run g.at.rings c.args.track c.args.ring.now c.take-2.new.self x c.requires.1.1.here more) (c.in_ok-answer-in-Ok.ensures.flushed tells old)
 
 pub returns-in_ok-answer-in-Ok-clause-media : goal.returns-in_ok-answer-in-Ok-clause-media
 returns-in_ok-answer-in-Ok-clause-media g c = let x = c.deref.result.now in
-    let more : c.take-2.new.self.received ≡ c.args.ring.now.received ++ x ∷ [] = received_more c.args.ring.now c.take-2.new.self c.in-Ok.block.value x c.in-Ok.ensures.answer.received c.deref.ensures in
+    let more : c.take-2.new.self.received ≡ c.args.ring.now.received ++ x ∷ [] = received_since c.args.ring.now c.is_empty.new.self c.take-2.new.self (c.is_empty.ensures.more c.if-is_empty.false) c.in-Ok.block.value x c.in-Ok.ensures.answer.received c.deref.ensures in
     writes_block g.M.Media.outside g.at.run.session g.at.rings c.args.track x.take c.args.ring.now c.take-2.new.self x _ c.args.media.now c.block-answer.new.media true
     c.requires.1.1.track c.requires.1.1.here more c.in_ok-answer-in-Ok.ensures.adds
 

@@ -17,6 +17,9 @@ loop-sent-init g c = record {
   read = reads_none g.M.Media.outside c.args.reader.now;
 }
 
+pub returns-then-has_nothing_due-clause-serves : goal.returns-then-has_nothing_due-clause-serves
+returns-then-has_nothing_due-clause-serves g c = serves_nothing _ _ _ _ _ _
+
 pub returns-in_err-send_next-clause-serves : goal.returns-in_err-send_next-clause-serves
 returns-in_err-send_next-clause-serves g c = let so_far = c.loop-sent.invariant in
     serves_more _ _ _ _ _ _ _ _ _ _ so_far.before so_far.serves so_far.heads

@@ -1,5 +1,5 @@
 use Rattle.std.proofs.Common.{arith}
-use Rattle.track_playback.proofs.PlaybacksLemmas.{all_show, played_left, waits_now}
+use Rattle.track_playback.proofs.PlaybacksLemmas.{all_show, played_left}
 use Rattle.track_playback.proofs.LookUpLemmas.{all_looked_up}
 use Rattle.track_playback.proofs.playbacks.look_at_all.Goals as goal
 
@@ -7,15 +7,10 @@ pub look_at-requires-clause-played : goal.look_at-requires-clause-played
 look_at-requires-clause-played c = let l = c.loop-t in
     played_left c.args.at c.args.plays.now c.args.playbacks.now l.plays l.playbacks l.t l.invariant c.requires.played (omega (arith, c.loop-t-test.true, c.requires.closed.count, l.invariant.playbacks, l.auto.t-end)) _ _
 
-pub all_there-requires : goal.all_there-requires
-all_there-requires c = let l = c.loop-t in
+pub returns-clause-shows : goal.returns-clause-shows
+returns-clause-shows c = let l = c.loop-t in
     all_show c.args.at c.args.plays.now c.args.playbacks.now l.plays l.playbacks l.t l.invariant c.requires.some c.requires.played c.requires.closed.count
     (omega (arith, c.loop-t-test.false, l.auto.t-end, l.invariant.playbacks))
-
-pub returns-clause-waits : goal.returns-clause-waits
-returns-clause-waits c = λ short. let l = c.loop-t in
-    waits_now c.args.at c.args.plays.now c.args.playbacks.now l.plays l.playbacks l.t l.invariant c.requires.closed.count
-    (omega (arith, c.loop-t-test.false, l.auto.t-end, l.invariant.playbacks)) (c.all_there.ensures.missing short)
 
 pub returns-clause-looked_up : goal.returns-clause-looked_up
 returns-clause-looked_up c = let l = c.loop-t in
