@@ -21,7 +21,7 @@ use edition_log::Edition;
 use piece_item::{Ack, ButlerEnds};
 use playlist_layers::Scratch;
 use read_ahead::{SourceReader, TrackSupply, supplies};
-use ses_io::{Media, NoMemory};
+use ses_io::{FixedList, Media, NoMemory};
 use ses_units::limits::EDITS;
 use std::alloc::Global;
 use std::marker::Model;
@@ -35,10 +35,10 @@ pub(crate) struct Holdings<M: Media> {
     pub(crate) reader: SourceReader<M>,
     /// How many cycles were asked.
     pub(crate) cycles: u32,
-    pub(crate) supplies: Vec<TrackSupply>,
+    pub(crate) supplies: FixedList<TrackSupply>,
     pub(crate) drain: CaptureDrain,
     /// Of each generation the greatest next block that was acknowledged.
-    pub(crate) nexts: Vec<u32>,
+    pub(crate) nexts: FixedList<u32>,
     pub(crate) husk: Option<Box<Ack>>,
     /// The number of the edition that was entered last.
     pub(crate) entered: u32,
@@ -83,11 +83,11 @@ impl<M: Media> Model for Butler<M> {
 }
 
 // A table of zeros.
-fn table(alloc: Global) -> Result<Vec<u32>, NoMemory>
+fn table(alloc: Global) -> Result<FixedList<u32>, NoMemory>
     ensures { IfOk result (λ v. v.items ≡ replicate 10001 0) }
 {
     let nexts = vec![in alloc; 0; GENERATIONS]?;
-    Ok(nexts)
+    Ok(FixedList::from_vec(nexts))
 }
 
 // What a butler holds that did nothing yet.
@@ -125,7 +125,7 @@ fn first_holdings<M: Media>(
             scratch,
         },
         cycles,
-        supplies,
+        supplies: FixedList::from_vec(supplies),
         drain,
         nexts,
         husk: Some(husk),

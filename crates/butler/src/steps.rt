@@ -26,7 +26,7 @@ impl<M: Media> Butler<M> {
         let Some(husk) = self.holds.husk.take() else {
             unreachable!()
         };
-        let (husk, ended) = accept(&mut self.ends.acks, husk, &mut self.holds.nexts);
+        let (husk, ended) = accept(&mut self.ends.acks, husk, self.holds.nexts.as_mut_slice());
         self.holds.husk = Some(husk);
         self.holds.ended = ended;
     }
@@ -41,7 +41,7 @@ impl<M: Media> Butler<M> {
         let _session = e.session();
         let number = e.number();
         if self.holds.entered != number {
-            enter_all(e, &mut self.holds.supplies);
+            enter_all(e, self.holds.supplies.as_mut_slice());
             self.holds.entered = number;
         }
     }
@@ -79,11 +79,17 @@ impl<M: Media> Butler<M> {
         }
         let pass = Pass {
             edition: e,
-            next: next_of(&holds.nexts, e),
+            next: next_of(holds.nexts.as_slice(), e),
             cycles: holds.cycles,
         };
         let sends = self.ends.sends.as_mut_slice();
-        let answer = send_all(&mut holds.reader, &pass, &mut holds.supplies, sends, most);
+        let answer = send_all(
+            &mut holds.reader,
+            &pass,
+            holds.supplies.as_mut_slice(),
+            sends,
+            most,
+        );
         holds.read_failed = answer.is_err();
         answer
     }

@@ -1,4 +1,5 @@
-//! Control on one thread: its lines are carried out one after another, and each is answered to out.
+//! Control on one thread: its lines are carried out one after another, and each that says something is answered
+//! to out.
 #![tactic(auto)]
 
 mod control;

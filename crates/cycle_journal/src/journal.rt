@@ -1,7 +1,8 @@
 //! The journal of a run: one entry a cycle, in order, with room reserved for all cycles that were asked.
 ghost use Rattle.std.specs.Prelude.{◌≡◌, ◌<◌, ◌≤◌, [], ◌∷◌, ◌++◌, length, IfOk};
 
-use crate::entry::Entry;
+use crate::entry::{Entry, State};
+use arrayvec::ArrayVec;
 use ses_io::{FixedList, NoMemory};
 use std::alloc::Global;
 use std::marker::Model;
@@ -21,14 +22,42 @@ impl Model for Journal {
     ghost view = { λ j. j.entries };
 }
 
+// Fills a list up with blank entries, so that each page of its memory is written once.
+fn touch(entries: &mut FixedList<Entry>)
+    requires { entries.old.items ≡ [] }
+    ensures full { length entries.new.items ≡ entries.old.room }
+    ensures room { entries.new.room ≡ entries.old.room }
+{
+    for made in 0..entries.room() {
+        entries.push(Entry {
+            edition: 0,
+            settled: 0,
+            state: State::Stopped,
+            notes: ArrayVec::new(),
+        });
+    }
+}
+
+// Takes all entries out again.
+fn empty(entries: &mut FixedList<Entry>)
+    requires { length entries.old.items ≡ entries.old.room }
+    ensures { entries.new ≡ record entries.old { items = [] } }
+{
+    for taken in 0..entries.room() {
+        let _blank = entries.pop();
+    }
+}
+
 impl Journal {
-    /// An empty journal with room for so many cycles, 1..100,000.
+    /// An empty journal with room for so many cycles, 1..100,000. Its memory was written once, so
+    /// that no entry of a cycle is the first to touch a page of it.
     pub fn new(alloc: Global, cycles: u32) -> Result<Journal, NoMemory>
         ensures { IfOk result (λ j. j ≡ record { items = []; room = cycles }) }
     {
-        Ok(Journal {
-            entries: FixedList::new(alloc, cycles)?,
-        })
+        let mut entries = FixedList::new(alloc, cycles)?;
+        touch(&mut entries);
+        empty(&mut entries);
+        Ok(Journal { entries })
     }
 
     /// Adds an entry at the end. It takes no memory.

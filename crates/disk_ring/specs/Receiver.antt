@@ -15,7 +15,7 @@ pub record Receiver (T : Type 0) : Type 0 where
   pub room : ℕ
   -- every item that was taken, in order
   pub received : List T
-  -- the tail of each load by which `take` answered Empty or Closed
+  -- the tail of each load by which `take` answered Empty or Closed, or `is_empty` yes
   pub tails : List ℕ
   -- whether `take` answered Closed
   pub ended : Bool
@@ -38,7 +38,7 @@ receiver_of p depth = record {
 }
 
 module _ {T : Type 0} where
-  -- what `take` and `meet` leave as it was, and what only grows
+  -- what `take`, `is_empty` and `meet` leave as it was, and what only grows
   pub record GoesOnOut (a b : Receiver T) : Type 0 where
     -- the ring, its depth and its room stay
     pub ring : b.ring ≡ a.ring

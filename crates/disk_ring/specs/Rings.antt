@@ -34,7 +34,7 @@ pub record Joined (T : Type 0) : Type 0 where
   pub heads : List ℕ
   -- every item that was taken, in order
   pub received : List T
-  -- the tail of each load by which `take` answered Empty or Closed
+  -- the tail of each load by which `take` answered Empty or Closed, or `is_empty` yes
   pub tails : List ℕ
   -- whether `take` answered Closed
   pub ended : Bool

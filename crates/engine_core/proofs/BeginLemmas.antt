@@ -1,15 +1,18 @@
 -- A run that has begun goes on, by no letter and no line.
-use Rattle.std.proofs.Common.{◌≡◌, ◌≢◌, ℕ, arith, List, [], length, refl, sym, ap, subst, ◌∙◌}
-use Rattle.std.specs.Prelude.{Bool, true, false, not, is_none, is_some, reverse, Option, Some, None}
+use Rattle.std.proofs.Common.{◌≡◌, ◌≢◌, ℕ, arith, List, [], ◌∷◌, ◌++◌, length, refl, sym, ap, subst, ◌∙◌}
+use Rattle.std.specs.Prelude.{Bool, true, false, map, not, is_none, is_some, reverse, Option, Some, None}
 use Rattle.std.proofs.lemmas.Bool.{false≢true}
 use Rattle.ses_io.specs.FixedList.{Listed}
 use Rattle.ses_io.specs.Outside.{MediaOutside, SourceOutside, SinkOutside}
 use Rattle.session_model.specs.declared.session.Session.{Session}
 use Rattle.session_model.specs.declared.edit.Edit.{Edit}
 use Rattle.engine_model.specs.Edits.{has_quit}
+use Rattle.engine_model.specs.Journal as engine
+use Rattle.engine_model.specs.Truth.{losses}
 use Rattle.machine_model.specs.Core as machine
 use Rattle.machine_model.specs.Core.{Core}
 use Rattle.edition_log.specs.EditionState.{EditionState}
+use Rattle.edition_log.proofs.PlayLaws.{editions_play_their_places}
 use Rattle.cycle_journal.specs.declared.entry.Entry.{Entry}
 use Rattle.cycle_journal.specs.JournalView.{seen_entries}
 use Rattle.process_cycle.specs.ProcessState.{entries_of}
@@ -21,8 +24,10 @@ use Rattle.control_desk.proofs.ControlLemmas.{goes_nowhere}
 use Rattle.control_letter.specs.Shown.{shown_core, standing_by}
 use Rattle.serial_laws.specs.Answered.{HasAnswered}
 use Rattle.serial_laws.specs.Leads.{HasCome}
+use Rattle.serial_laws.specs.Paced.{HasPaced}
 use Rattle.serial_laws.proofs.AnsweredLemmas.{nothing_is_answered_at_first}
 use Rattle.serial_laws.proofs.GivenLemmas.{a_run_begins}
+use Rattle.serial_laws.proofs.PacedLemmas.{nothing_is_paced_at_first}
 use Rattle.run_world.specs.declared.opened.Opened.{Opened}
 use Rattle.run_world.specs.declared.opened.Script.{Script}
 use Rattle.worker_pair.specs.declared.beginning.Start.{Start}
@@ -31,12 +36,15 @@ use Rattle.worker_pair.specs.Plays.{OnlyTheMaster}
 use Rattle.worker_pair.specs.Starts.{HaveBegun, IsBegunBy, MayBegin}
 use Rattle.worker_pair.specs.Tied.{IsTied}
 use Rattle.engine_core.specs.declared.run.Run.{Run}
+use Rattle.engine_core.specs.Started.{is_played_out}
+use Rattle.engine_core.specs.Fed.{PlayAsPlain}
 use Rattle.engine_core.specs.UnderWay.{IsFresh, IsUnderWay}
 use Rattle.engine_core.specs.Carrying.{IsQuietScript}
 use Rattle.engine_core.specs.Events.{given}
 use Rattle.engine_core.specs.Going.{IsGoing}
 use Rattle.engine_core.specs.declared.lists.Lists.{Lists}
 use Rattle.engine_core.specs.Lists.{HasRoom, no_lists}
+use Rattle.engine_core.proofs.FedBeginLemmas.{first_fed, first_heard}
 use Rattle.engine_core.specs.Beginning.{MayRun, control_of, opening_of, started_of, unlettered}
 
 ready_isnt_ended : (why : End) → Ready ≢ Ended why
@@ -119,6 +127,14 @@ tied_still s c old new only tied = subst (IsTied s c) (sym only) (record {
   told_control = tied.told_control;
 })
 
+-- the front of an empty list is empty
+front_of_none : {X : Type 0} (xs ys : List X) → xs ++ ys ≡ [] → xs ≡ []
+front_of_none [] ys e = refl
+front_of_none (x ∷ xs) ys e = absurd (some_item e)
+  where
+    some_item : x ∷ (xs ++ ys) ≡ [] → ⊥
+    some_item e = cc
+
 -- ---- with its control
 
 module _ {M I C W O : Type 0} (media : MediaOutside M) (inputs : SourceOutside I) (source : SourceOutside C) (sinks : SinkOutside W) (sink : SinkOutside O) (o : Opened M I C W O) (may : MayRun media o) where
@@ -161,10 +177,31 @@ module _ {M I C W O : Type 0} (media : MediaOutside M) (inputs : SourceOutside I
       leads = subst (λ st. HasCome (s media inputs sinks o) o.cycles (record { letters = []; lines = [] }) (standing_by (machine.at_first (s media inputs sinks o)) st [])) (sym (ready o.script))
           (a_run_begins (s media inputs sinks o) o.cycles);
     };
+    serial = λ unlettered. record {
+      shut = ap (λ (q : Pair M I W). q.in_cycle) only ∙ b.in_cycle;
+      unquit = (editions_play_their_places (s media inputs sinks o) run.pair.playing under_way.rests.entered.edition_of).quit ∙ ap (λ (l : List Edit). has_quit l (length l)) none_played;
+      fed = λ fine. (
+        first_fed media inputs sinks (started_of media inputs sinks o) run under_way tied_now none_made,
+        first_heard media inputs sinks (started_of media inputs sinks o) run under_way tied_now none_made,
+      );
+      plays = λ fine. subst (PlayAsPlain (s media inputs sinks o) run.pair.edition.edits) (sym none_made) tt;
+      none_lost = λ fine t d here. (under_way.rests.promises.captured t d here).heads ∙ ap (λ (es : List engine.Entry). map (λ l. l.head) (losses t (reverse es))) none_made;
+      paced = subst (λ l. HasPaced (s media inputs sinks o) o.cycles (is_played_out run) []
+          (standing_by (shown_core (s media inputs sinks o) l (entries_of run.pair.process)) (control_of o.world.control o.world.out o.script).standing [])) (sym none)
+          (subst (λ l. HasPaced (s media inputs sinks o) o.cycles (is_played_out run) [] (standing_by (shown_core (s media inputs sinks o) [] l) (control_of o.world.control o.world.out o.script).standing [])) (sym none_made)
+          (subst (λ st. HasPaced (s media inputs sinks o) o.cycles (is_played_out run) [] (standing_by (shown_core (s media inputs sinks o) [] []) st [])) (sym (ready o.script))
+          (nothing_is_paced_at_first (s media inputs sinks o) o.cycles (is_played_out run))));
+    };
   }
     where
       none : run.pair.edition.edits ≡ []
       none = ap (λ (q : Pair M I W). q.edition.edits) only ∙ ap (λ (e : EditionState). e.edits) b.edition ∙ may.first
+
+      tied_now : IsTied (s media inputs sinks o) (machine.at_first (s media inputs sinks o)) run.pair
+      tied_now = tied_still (s media inputs sinks o) (machine.at_first (s media inputs sinks o)) p run.pair only b.tied
+
+      none_played : run.pair.playing.edits ≡ []
+      none_played = front_of_none run.pair.playing.edits under_way.rests.entered.begins.0 (under_way.rests.entered.begins.1 ∙ none)
 
       none_made : entries_of run.pair.process ≡ []
       none_made = ap (λ (q : Pair M I W). entries_of q.process) only ∙ ap (λ (j : Listed Entry). reverse (seen_entries j.items)) b.journal

@@ -43,8 +43,10 @@ use Rattle.engine_core.specs.declared.failed.Failed.{Failed}
 use Rattle.engine_core.specs.declared.run.Run.{Run}
 use Rattle.engine_core.specs.Failed.{IsCounted}
 use Rattle.engine_core.specs.Started.{Started, now_of}
+use Rattle.engine_core.specs.Depths.{HaveDepths}
 use Rattle.engine_core.specs.Closed.{AreShut, IsClosed, MayClose, SayTheSame}
 use Rattle.engine_core.specs.LastTurns.{AllReceived, AreToldMore, LeavesAlone, TakesLastTurns, at_last}
+use Rattle.engine_core.proofs.DepthLemmas.{depths_told}
 use Rattle.engine_core.specs.MachineEnds.{ClosesAsMachine, DrainsAsMachine, DrainsFrom}
 
 -- ---- ends that say the same
@@ -157,6 +159,13 @@ module _ {V I W : Type 0} (media : MediaOutside V) (inputs : SourceOutside I) (s
     to_control = ap (λ (z : Sender Ack). z.closed) closes.control.sender;
   }
 
+  first_depths : HaveDepths on.begun.session first.ends
+  first_depths = record {
+    takes = λ t l there. let k = also_there first.ends.takes.items ours.takes.items t l many_takes there in
+        ap (λ (z : Sender TakeBlock). z.depth) (take_shut t k.0 l k.1 there) ∙ may.depths.takes t k.0 k.1;
+    to_control = ap (λ (z : Sender Ack). z.depth) closes.control.sender ∙ may.depths.to_control;
+  }
+
   -- the butler may take its last turns
   pub last_begins : Serves media (now_of on run) first → TakesLastTurns media on first run.failed
   last_begins serves = record {
@@ -196,6 +205,7 @@ module _ {V I W : Type 0} (media : MediaOutside V) (inputs : SourceOutside I) (s
       received = received;
       ends = same_now;
       shut = shut_on first.ends now.ends alone.ends first_shut;
+      depths = depths_told on.begun.session first.ends now.ends alone.ends first_depths;
       promises = subst (λ j. Promises (playing_at (at_last on.begun now)) (reverse (seen_entries j.items)) now.ends) (sym closes.journal) promises_now;
       control = ap (λ (z : Receiver Ack). z.ring) closes.control.receiver ∙ may.rests.control.ring ∙ sym (ap (λ (z : Sender Ack). z.ring) (alone.ends.to_control ∙ closes.control.sender));
       none_taken = ap (λ (z : Receiver Ack). z.received) closes.control.receiver ∙ may.rests.control.none_taken;

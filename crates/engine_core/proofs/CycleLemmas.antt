@@ -31,10 +31,12 @@ use Rattle.worker_pair.proofs.NowLemmas.{now_rests, now_runs}
 use Rattle.engine_core.specs.declared.failed.Failed.{Failed}
 use Rattle.engine_core.specs.declared.run.Run.{Run}
 use Rattle.engine_core.specs.Failed.{IsCounted, after_cycle, has_stopped}
+use Rattle.engine_core.specs.Depths.{HaveDepths}
 use Rattle.engine_core.specs.CutOff.{IsCutInCycle}
 use Rattle.engine_core.specs.Started.{Started, now_of, AreCounted}
 use Rattle.engine_core.specs.UnderWay.{InputIsShort, IsInputOf, IsUnderWay}
 use Rattle.engine_core.specs.Letters.{CycleIsP, GatheringIsG, GathersOn}
+use Rattle.engine_core.proofs.DepthLemmas.{depths_met, depths_played}
 use Rattle.engine_core.proofs.GatherLemmas.{cycles_gathered, going, input_is_fine, master_is_fine, old_runs}
 use Rattle.engine_core.proofs.KeepLemmas.{counted_more, items_met}
 
@@ -126,6 +128,12 @@ module _ {V I W : Type 0} (media : MediaOutside V) (inputs : SourceOutside I) (s
           (subst (λ (z : ProcessState I W). AreOtherEnds z.ends old.pair.butler.ends) (sym stopped) runs.serves.others) cycles.met.ends
           ∙ ap items_of stopped
 
+      -- the rings have their depths
+      depths_still : HaveDepths on.begun.session new.process.ends
+      depths_still = depths_met on.begun.session cycles.process.ends new.process.ends old.pair.butler.ends new.butler.ends
+          (subst (λ (z : ProcessState I W). AreOtherEnds z.ends old.pair.butler.ends) (sym stopped) runs.serves.others) cycles.met.ends
+          (subst (λ (z : ProcessState I W). HaveDepths on.begun.session z.ends) (sym stopped) is.depths)
+
       -- where the master stands, it holds what it held
       mastered_still : cycles.process.master ≡ old.pair.process.master → IsMastered sinks (playing_at (now_of on old)) old.pair.process → (failed : Failed) →
           IsMastered sinks (playing_at (now_of on (cycled failed))) new.process
@@ -188,6 +196,7 @@ module _ {V I W : Type 0} (media : MediaOutside V) (inputs : SourceOutside I) (s
     mastered = λ fine. now.mastered refl;
     cut = λ bad. absurd (master_is_fine old.failed goes bad);
     input_short = λ bad. absurd (input_is_fine old.failed goes bad);
+    depths = depths_played inputs (playing_at (now_of on (record { pair = new; failed = old.failed }))) new.process now.playing;
   }
   under_way_by valid new (Err InputFault) cycles ok rests hears = record {
     rests = now_rests media (now_of on old) new rests;
@@ -203,6 +212,7 @@ module _ {V I W : Type 0} (media : MediaOutside V) (inputs : SourceOutside I) (s
     mastered = λ fine. mastered_still new (Err InputFault) cycles cycles.fault cycles.writes (is.mastered fine) (record old.failed { input = true });
     cut = λ bad. absurd (master_is_fine old.failed goes bad);
     input_short = λ bad. short new (Err InputFault) cycles cycles.fault (record old.failed { input = true }) cycles.reads.short;
+    depths = depths_still new (Err InputFault) cycles cycles.fault;
   }
   under_way_by valid new (Err MasterFault) cycles ok rests hears = record {
     rests = now_rests media (now_of on old) new rests;
@@ -218,6 +228,7 @@ module _ {V I W : Type 0} (media : MediaOutside V) (inputs : SourceOutside I) (s
     mastered = λ fine. absurd (false≢true (sym fine));
     cut = λ bad. inr (cut_in_cycle new (Err MasterFault) cycles cycles.fault valid cycles.reads.place cycles.writes.front (record old.failed { master = true }));
     input_short = λ bad. absurd (input_is_fine old.failed goes bad);
+    depths = depths_still new (Err MasterFault) cycles cycles.fault;
   }
 
   -- **A run that made a cycle is under way.**

@@ -31,6 +31,7 @@ use Rattle.engine_core.proofs.TurnLemmas.{some_write}
 use Rattle.engine_core.specs.declared.closing.Closed.{Closed}
 use Rattle.engine_core.specs.declared.lists.Lists.{Lists}
 use Rattle.engine_core.specs.declared.parting.Ended.{Ended}
+use Rattle.engine_core.specs.Depths.{HaveDepths}
 use Rattle.engine_core.specs.Closed.{IsClosed, MayClose}
 use Rattle.engine_core.specs.Ended.{GivesBack}
 use Rattle.engine_core.specs.Lists.{HasRoom}
@@ -60,7 +61,12 @@ module _ {V I W : Type 0} (media : MediaOutside V) (inputs : SourceOutside I) (s
     (is : IsWritten media inputs sinks on run written) where
   -- once its master was ended the process may end
   pub may_close : IsUnderWay media inputs sinks on run → MayClose media inputs sinks on written
-  may_close under = record { rests = is.rests; counts = is.counts; opened = ap (λ (p : Pair V I W). p.butler.sources.opened) is.only ∙ under.opened }
+  may_close under = record {
+    rests = is.rests;
+    counts = is.counts;
+    opened = ap (λ (p : Pair V I W). p.butler.sources.opened) is.only ∙ under.opened;
+    depths = subst (λ (p : Pair V I W). HaveDepths on.begun.session p.process.ends) (sym is.only) under.depths;
+  }
 
   module _ (c : Closed V I W) (closed : IsClosed media on written c) where
     abbrev s : Session

@@ -45,6 +45,7 @@ module _ {V I W : Type 0} (media : MediaOutside V) (inputs : SourceOutside I) (s
     cut = is.cut;
     input = is.input;
     input_short = λ lost. short_stands inputs on old (record { pair = in_edition e open_now; failed = old.failed }) refl refl (is.input_short lost);
+    depths = is.depths;
   }
 
   -- so is one whose process has entered

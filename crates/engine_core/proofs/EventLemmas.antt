@@ -2,8 +2,8 @@
 use Rattle.std.proofs.Common.{◌≡◌, ◌≢◌, ℕ, zero, suc, ◌+◌, ◌<◌, ◌≤◌, List, [], ◌∷◌, ◌++◌, append_assoc, get_or, length, take, refl, sym, ap, ◌∙◌, arith}
 use Rattle.std.specs.Prelude.{Bool, true, map}
 use Rattle.std.proofs.lemmas.List.{map-append}
-use Rattle.engine_core.specs.declared.events.Event.{Event}
-use Rattle.engine_core.specs.Events.{letter_of}
+use Rattle.run_letters.specs.declared.event.Event.{Event}
+use Rattle.run_letters.specs.Events.{letter_of}
 use Rattle.ses_io.specs.Outside.{MediaOutside, SourceOutside, SinkOutside}
 use Rattle.session_model.specs.declared.session.Session.{Session}
 use Rattle.machine_model.specs.Letters as letter

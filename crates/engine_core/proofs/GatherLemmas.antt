@@ -24,6 +24,7 @@ use Rattle.engine_core.specs.Failed.{has_stopped}
 use Rattle.engine_core.specs.Started.{Started, now_of}
 use Rattle.engine_core.specs.UnderWay.{IsInputOf, IsUnderWay}
 use Rattle.engine_core.specs.Letters.{EnteringIsE, EntersOn, GatheringIsG, GathersOn}
+use Rattle.engine_core.proofs.DepthLemmas.{depths_played}
 use Rattle.engine_core.proofs.EnterLemmas.{cycles_entered, either}
 use Rattle.engine_core.proofs.KeepLemmas.{counts_stand}
 
@@ -78,6 +79,7 @@ module _ {V I W : Type 0} where
         cut = λ bad. absurd (master_is_fine old.failed going bad);
         input = subst (IsInputOf on) (sym (ap (λ (z : ProcessState I W). z.input) looks.met.process_is ∙ ap (λ (z : ProcessState I W). z.input) looks.keeps.same)) is.input;
         input_short = λ bad. absurd (input_is_fine old.failed going bad);
+        depths = depths_played inputs (playing_at (now_of on looked_run)) new.process runs_now.playing;
       }
 
       -- each track's look-up is over

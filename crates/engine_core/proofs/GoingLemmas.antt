@@ -30,10 +30,12 @@ use Rattle.control_letter.specs.Letter.{DoesLetter}
 use Rattle.control_letter.specs.Shown.{shown_core, shown_cycles, standing_by}
 use Rattle.control_letter.proofs.WholeLemmas.{the_letter_is_done}
 use Rattle.serial_laws.specs.Answered.{HasAnswered}
+use Rattle.serial_laws.specs.Paced.{HasPaced}
 use Rattle.serial_laws.specs.Standing.{Standing, machine_of}
 use Rattle.serial_laws.specs.Truth.{AllHold}
 use Rattle.serial_laws.proofs.AnsweredLemmas.{each_line_is_answered, it_goes_by_the_edits}
 use Rattle.serial_laws.proofs.GivenLemmas.{control_goes_on, the_workers_go_on}
+use Rattle.serial_laws.proofs.PacedLemmas.{each_line_is_paced}
 use Rattle.serial_laws.proofs.TruthLemmas.{answers_hold, answers_hold_on}
 use Rattle.worker_pair.specs.Tied.{IsTied}
 use Rattle.worker_pair.proofs.LongerLemmas.{quit_longer}
@@ -42,11 +44,15 @@ use Rattle.engine_core.specs.Failed.{has_stopped, nothing_failed}
 use Rattle.engine_core.specs.Started.{Started, is_played_out, now_of}
 use Rattle.engine_core.specs.UnderWay.{IsUnderWay}
 use Rattle.engine_core.specs.declared.engine.Engine.{Engine}
-use Rattle.engine_core.specs.Carrying.{CarriesALine, MayCarry, PublishesAsMachine}
+use Rattle.engine_core.specs.Carrying.{CarriesALine, MayCarry, OnlyTheEdition, PublishesAsMachine}
 use Rattle.engine_core.specs.Going.{Follows, HasSaid, IsGoing, LeadsTo, MayGoOn}
+use Rattle.engine_core.specs.Fed.{AllHeard, IsFed, PlayAsPlain}
+use Rattle.engine_core.specs.Lost.{NoneIsLost, captures_of}
 use Rattle.engine_core.specs.Opening.{Given, Opening, Way}
+use Rattle.engine_core.specs.Serial.{KeepsUp, letters_of}
 use Rattle.engine_core.specs.Shows.{edits_of, made_of, shows}
 use Rattle.engine_core.specs.WentOn.{WentOn}
+use Rattle.engine_core.proofs.FedBeginLemmas.{letter_begins, plain_longer}
 use Rattle.engine_core.proofs.LawfulLemmas.{journal_is_lawful}
 
 -- ---- what a run shows
@@ -104,6 +110,11 @@ unread_yet Ready e = refl
 unread_yet (Awaits awaited) e = refl
 unread_yet (Ended why) e = absurd (false≢true (sym e))
 
+-- where a letter was given, some was
+some_letter : (letters : List Letter) (letter : Letter) → letters ++ letter ∷ [] ≡ [] → ⊥
+some_letter [] letter none = cc
+some_letter (l ∷ letters) letter none = cc
+
 module _ {V I C W O : Type 0} (media : MediaOutside V) (inputs : SourceOutside I) (source : SourceOutside C) (sinks : SinkOutside W) (sink : SinkOutside O) (opening : Opening V I C W O) where
   abbrev s : Session
   s = opening.started.begun.session
@@ -140,14 +151,17 @@ module _ {V I C W O : Type 0} (media : MediaOutside V) (inputs : SourceOutside I
   -- whatever way it is on, by where that leads
   pub worker_goes : (way now : Way) (old : Engine V I C W O) (run : Run V I W) → WentOn old.run run → IsUnderWay media inputs sinks opening.started run →
       ((lines : List Line) (replies : List Reply) → nothing_failed run.failed ≡ true → FollowsBy way lines replies old.control old.run → FollowsBy now lines replies old.control run) →
+      ((lines : List Line) (replies : List Reply) → letters_of now ≡ [] → (letters_of way ≡ [] → KeepsUp s opening.cycles lines replies old.control.standing old.run) →
+      KeepsUp s opening.cycles lines replies old.control.standing run) →
       Goes way old → Goes now (record { run = run; control = old.control })
-  worker_goes way now old run went under_way leads is = record {
+  worker_goes way now old run went under_way leads keeps is = record {
     may = may_go_on old run went under_way is.may;
     asked = went.asked ∙ is.asked;
     lines = is.lines;
     replies = is.replies;
     said = said_on old.run run is.lines is.replies old.control went is.said;
     follows = λ fine. leads is.lines is.replies fine (is.follows (went.fine fine));
+    serial = λ none. keeps is.lines is.replies none is.serial;
   }
 
   -- a letter that was given
@@ -159,7 +173,7 @@ module _ {V I C W O : Type 0} (media : MediaOutside V) (inputs : SourceOutside I
         core = after s opening.cycles f.core (moves s opening.cycles (machine_of st []) letter);
         tied = subst (λ k. IsTied s (after s k f.core (moves s k (machine_of st []) letter)) run.pair) is.asked (ties (machine_of st []) fine f.tied);
         leads = the_workers_go_on s opening.cycles (record { letters = letters; lines = lines }) st letter no_line f.leads;
-      }) is
+      }) (λ lines replies none was. absurd (some_letter letters letter none)) is
 
   -- ---- a letter of control
 
@@ -207,11 +221,37 @@ module _ {V I C W O : Type 0} (media : MediaOutside V) (inputs : SourceOutside I
               (subst (λ b. AllHold b (made_of old.run) is.replies) (sym (shown_over s (edits_of old.run) (is_played_out old.run) (made_of old.run))) is.said.holds)));
         }
 
+    -- playback goes by nothing that a line changes
+    fed_edited : OnlyTheEdition old.run new.run → IsFed s old.run → IsFed s new.run
+    fed_edited only fed = subst (IsFed s) (sym only) (record { from = fed.from; reached = fed.reached; free = fed.free; once = fed.once; acks = fed.acks })
+
+    heard_edited : OnlyTheEdition old.run new.run → AllHeard old.run → AllHeard new.run
+    heard_edited only heard = subst AllHeard (sym only) heard
+
+    -- a run without letters keeps up with the lines that were taken
+    keeps_up_now : KeepsUp s opening.cycles is.lines is.replies old.control.standing old.run → KeepsUp s opening.cycles (is.lines ++ does.taken) (does.given ++ is.replies) new.control.standing new.run
+    keeps_up_now was = let shown = shown_core s (edits_of old.run) (made_of old.run) in let over = is_played_out old.run in let seen = shown_cycles over (made_of old.run) in
+        let flag = shown_over s (edits_of old.run) over (made_of old.run) in record {
+          shut = ap (λ (r : Run V I W). r.pair.in_cycle) carried.only ∙ was.shut;
+          unquit = ap (λ (r : Run V I W). r.pair.playing.transport.quit) carried.only ∙ was.unquit;
+          fed = λ fine. let before = was.fed (sym (ap (λ (r : Run V I W). r.failed.read) carried.only) ∙ fine) in (fed_edited carried.only before.0, heard_edited carried.only before.1);
+          plays = λ fine. let begins = letter_begins source sink s (shows old.run) (edits_of old.run) (edits_of new.run) old.control new.control carried.letter in
+              subst (PlayAsPlain s (edits_of new.run)) (sym made_same) (subst (λ (l : List Edit). PlayAsPlain s l (made_of old.run)) begins.1
+              (plain_longer s (edits_of old.run) begins.0 (made_of old.run) (was.plays (sym (ap (λ (r : Run V I W). r.failed.read) carried.only) ∙ fine))));
+          none_lost = λ fine. subst NoneIsLost (sym (ap captures_of carried.only)) (was.none_lost (sym (ap (λ (r : Run V I W). r.failed.write) carried.only) ∙ fine));
+          paced = subst (λ b. HasPaced s opening.cycles b (is.lines ++ does.taken) (standing_by (shown_core s (edits_of new.run) (made_of new.run)) new.control.standing (does.given ++ is.replies)))
+              (flag ∙ sym over_same)
+              (subst (λ l. HasPaced s opening.cycles (machine.is_played_out seen shown) (is.lines ++ does.taken) (standing_by (shown_core s (edits_of new.run) l) new.control.standing (does.given ++ is.replies)))
+              (sym made_same)
+              (each_line_is_paced s opening.cycles seen is.lines does.taken (before shown is.replies) (then shown is.replies) (does.carries seen shown is.replies (shown_of s old.run) refl) is.may.may_carry.unquit
+              (subst (λ b. HasPaced s opening.cycles b is.lines (before shown is.replies)) (sym flag) was.paced)));
+        }
+
     -- **Control has carried out its letter**, whatever way the run is on, by where that leads.
     pub control_goes : (now : Way) → MayGoOn media inputs sinks opening.started new → PublishesAsMachine s old new →
         ((c : Core) → IsSeenOf opening.cycles c (shows old.run) → c.edits ≡ edits_of old.run → LeadsTo s opening.cycles way is.lines (before c is.replies) →
-        LeadsTo s opening.cycles now (is.lines ++ does.taken) (then c is.replies)) → Goes now new
-    control_goes now may ties leads = record {
+        LeadsTo s opening.cycles now (is.lines ++ does.taken) (then c is.replies)) → (letters_of now ≡ [] → letters_of way ≡ []) → Goes now new
+    control_goes now may ties leads before_it = record {
       may = may;
       asked = ap (λ (r : Run V I W). r.pair.butler.cycles) carried.only ∙ is.asked;
       lines = is.lines ++ does.taken;
@@ -222,6 +262,7 @@ module _ {V I C W O : Type 0} (media : MediaOutside V) (inputs : SourceOutside I
         tied = ties f.core f.tied;
         leads = leads f.core (seen_of s media inputs sinks opening.started old.run refl is.may.under_way opening.cycles f.core is.asked old_fine f.tied) f.tied.rings.edits f.leads;
       };
+      serial = λ none. keeps_up_now (is.serial (before_it none));
     }
 
   -- a letter of control that was given
@@ -229,4 +270,4 @@ module _ {V I C W O : Type 0} (media : MediaOutside V) (inputs : SourceOutside I
   carry_goes letters old new carried may ties is = control_goes old new (Given letters) is carried (Given (letters ++ machine_letters.C ∷ [])) may ties
       (λ c seen edits come. let d = does old new (Given letters) is carried in
       control_goes_on s opening.cycles (record { letters = letters; lines = is.lines }) (before old new (Given letters) is carried c is.replies) (then old new (Given letters) is carried c is.replies) d.taken
-      (d.carries opening.cycles c is.replies seen edits) come)
+      (d.carries opening.cycles c is.replies seen edits) come) (λ none. absurd (some_letter letters machine_letters.C none))

@@ -64,6 +64,11 @@ turn_stops (Ok turn) f = refl
 turn_stops (Err ReadFault) f = refl
 turn_stops (Err WriteFault) f = refl
 
+-- the entries with one more
+pub more_made : {I W : Type 0} (p q : ProcessState I W) (made : journal.Entry) → q.journal ≡ record p.journal { items = p.journal.items ++ made ∷ [] } → entries_of q ≡ seen_entry made ∷ entries_of p
+more_made p q made noted = ap (λ (j : Listed journal.Entry). reverse (seen_entries j.items)) noted ∙ ap reverse (map-append seen_entry p.journal.items (made ∷ []))
+    ∙ reverse-append (seen_entries p.journal.items) (seen_entry made ∷ [])
+
 -- ---- letters that make no entry
 
 module _ {V I W : Type 0} where
@@ -173,11 +178,6 @@ module _ {V I W : Type 0} where
           | inl is ↦ is
           | inr shut ↦ absurd (false≢true (sym (ap (λ (r : Run V I W). r.pair.in_cycle) (gathers.stays shut) ∙ shut) ∙ opens))
         ]
-
-    -- the entries with one more
-    more_made : (p q : ProcessState I W) (made : journal.Entry) → q.journal ≡ record p.journal { items = p.journal.items ++ made ∷ [] } → entries_of q ≡ seen_entry made ∷ entries_of p
-    more_made p q made noted = ap (λ (j : Listed journal.Entry). reverse (seen_entries j.items)) noted ∙ ap reverse (map-append seen_entry p.journal.items (made ∷ []))
-        ∙ reverse-append (seen_entries p.journal.items) (seen_entry made ∷ [])
 
     -- by what a cycle answers
     cycled : (old gathered new : Run V I W) → is_played_out old ≡ false → Stays old gathered → (answer : Result (Unit {0}) CycleFault) → Cycles inputs sinks (now_of on gathered) gathered.pair answer new.pair →

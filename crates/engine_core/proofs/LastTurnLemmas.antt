@@ -151,7 +151,7 @@ module _ {V I W : Type 0} (media : MediaOutside V) (on : Started V I W) (old : E
 -- ---- an Idle turn
 
 -- one list begins the other and the other way round
-same_begins : {X : Type 0} (xs ys : List X) → IsPrefix xs ys → IsPrefix ys xs → xs ≡ ys
+pub same_begins : {X : Type 0} (xs ys : List X) → IsPrefix xs ys → IsPrefix ys xs → xs ≡ ys
 same_begins xs ys one two = whole xs ys one (omega (arith, begins_length xs ys one, begins_length ys xs two))
 
 module _ {V : Type 0} (media : MediaOutside V) (at : At) (old : Ending V) (serves : Serves media at old) (new : Ending V) where

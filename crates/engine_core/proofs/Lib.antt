@@ -1,4 +1,5 @@
 -- Why a run on one thread does what it says.
+pub mod DepthLemmas
 pub mod KeepLemmas
 pub mod TurnLemmas
 pub mod MasterLemmas
@@ -29,11 +30,20 @@ pub mod LessLemmas
 pub mod ServeLemmas
 pub mod SerialMachineLemmas
 pub mod SerialCycleLemmas
+pub mod LostLemmas
+pub mod FedLists
+pub mod FedTurnLemmas
+pub mod FedLookLemmas
+pub mod FedCycleLemmas
+pub mod FedServeLemmas
+pub mod FedBeginLemmas
+pub mod SerialLemmas
 pub mod RestLemmas
 pub mod BeginLemmas
 pub mod LastLemmas
 pub mod AnswerLemmas
 pub mod LinesLemmas
+pub mod SeriallyLemmas
 pub mod ReceivedLemmas
 pub mod CutLemmas
 pub mod MasteredLemmas

@@ -53,7 +53,7 @@ use Rattle.engine_core.proofs.LastLemmas.{drains_over}
 
 -- ---- where control has ended
 
-none_awaited : (st : desk.Standing) → is_ended st ≡ true → awaits_of st ≡ None
+pub none_awaited : (st : desk.Standing) → is_ended st ≡ true → awaits_of st ≡ None
 none_awaited Ready e = refl
 none_awaited (Awaits awaited) e = absurd (false≢true e)
 none_awaited (Ended why) e = refl
@@ -102,7 +102,7 @@ none_failed f fine = let three = or_parts (f.input || f.master || f.read) f.writ
     not_so true e = absurd (false≢true e)
 
 -- what had failed has failed, so where nothing has nothing had
-before_by : (was now : Bool) → (was ≡ true → now ≡ true) → now ≡ false → was ≡ false
+pub before_by : (was now : Bool) → (was ≡ true → now ≡ true) → now ≡ false → was ≡ false
 before_by false now stays e = refl
 before_by true now stays e = absurd (true≢false (sym (stays refl) ∙ e))
 
@@ -128,7 +128,7 @@ module _ {M I C W O : Type 0} (media : MediaOutside M) (inputs : SourceOutside I
   ended_at core = standing_by core control.standing x.going.replies
 
   -- the entries that were made
-  made_are : reverse (seen_entries x.ended.journal.items) ≡ made_of run
+  pub made_are : reverse (seen_entries x.ended.journal.items) ≡ made_of run
   made_are = ap (λ (j : Listed Entry). reverse (seen_entries j.items)) x.written.journal
 
   -- ---- edits and replies

@@ -23,8 +23,10 @@ use Rattle.engine_core.specs.declared.failed.Failed.{Failed}
 use Rattle.engine_core.specs.declared.run.Run.{Run}
 use Rattle.engine_core.specs.Failed.{IsCounted, after_cycle}
 use Rattle.engine_core.specs.Started.{Started, AreCounted, now_of}
+use Rattle.engine_core.specs.Depths.{HaveDepths}
 use Rattle.engine_core.specs.CutOff.{HoldsAll, IsCutAtHead, IsCutAtEnd}
 use Rattle.engine_core.specs.UnderWay.{InputIsShort, IsFresh, IsInputOf, IsUnderWay, IsWritten}
+use Rattle.engine_core.proofs.DepthLemmas.{depths_played}
 use Rattle.engine_core.proofs.KeepLemmas.{counted_still, counted_none, counted_ok, counted_err, none_failed, none_is, rests_headed, short_stands}
 
 -- it was no fault of the input
@@ -93,6 +95,10 @@ module _ {V I W : Type 0} (media : MediaOutside V) (inputs : SourceOutside I) (s
         (subst (λ n. AppendsSome (sinks.held p.process.master.sink) (sinks.held q.process.master.sink) (head_bytes on.begun.session n)) (sym (ap (λ (z : Pair V I W). z.process.journal.room) same)) (front tells));
   }
 
+  -- the rings have their depths
+  depths_begun : HaveDepths on.begun.session q.process.ends
+  depths_begun = subst (λ (z : Pair V I W). HaveDepths on.begun.session z.process.ends) (sym same) (depths_played inputs (playing_at (at_first on.begun)) p.process fresh.runs.playing)
+
   -- the run is under way
   under_begun : (answer : Result (Unit {0}) CycleFault) → OnOk answer (Runs media inputs sinks (headed (at_first on.begun)) q) →
       Writes sinks (head_bytes on.begun.session p.process.journal.room) p.process.master.sink q.process.master.sink answer → IfErr answer (λ why. why ≡ MasterFault) →
@@ -115,6 +121,7 @@ module _ {V I W : Type 0} (media : MediaOutside V) (inputs : SourceOutside I) (s
     mastered = λ fine. (now_runs media inputs sinks (headed (at_first on.begun)) q runs).mastered refl;
     cut = λ broken. absurd (false≢true broken);
     input_short = λ broken. absurd (false≢true broken);
+    depths = depths_begun;
   }
   under_begun (Err InputFault) runs writes fault = absurd (not_input fault)
   under_begun (Err MasterFault) runs writes fault = record {
@@ -135,6 +142,7 @@ module _ {V I W : Type 0} (media : MediaOutside V) (inputs : SourceOutside I) (s
     mastered = λ fine. absurd (true≢false fine);
     cut = λ broken. inl (cut_at_head writes.front);
     input_short = λ broken. absurd (false≢true broken);
+    depths = depths_begun;
   }
 
   -- whatever the flags were made of

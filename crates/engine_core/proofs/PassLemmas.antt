@@ -147,6 +147,7 @@ module _ {V I W : Type 0} (media : MediaOutside V) (on : Started V I W) (run : R
     passed_at : (t : ℕ) (r : TrackRings) → slice_get rings t ≡ Some r → IsPassedOn s edits journal t r
     passed_at t r here = let j = at t r here in let both = whole_at rings whole t r here in let sent = is_sent t j.send j.send_at in record {
       depth = ap (λ (z : TrackRings). z.plays.depth) j.is ∙ sent.depth;
+      take_depth = ap (λ (z : TrackRings). z.takes.depth) j.is ∙ closed.depths.takes t j.capture j.capture_at;
       items = both.0;
       blocks = both.1;
       ordered = subst (λ (z : TrackRings). is_ordered s edits t (kinds z.plays.sent) ≡ true) (sym j.is) sent.in_order;
@@ -187,6 +188,7 @@ module _ {V I W : Type 0} (media : MediaOutside V) (on : Started V I W) (run : R
 
   pub told : (acks : Joined Ack) → acks ≡ joined_of e.ends.to_control c.stopped.acks → Whole acks → IsToldToControl s edits journal acks
   told acks is whole = record {
+    depth = ap (λ (z : Joined Ack). z.depth) is ∙ closed.depths.to_control;
     whole = whole;
     closed = ap (λ (z : Joined Ack). z.closed) is ∙ closed.shut.to_control;
     none_taken = ap (λ (z : Joined Ack). z.received) is ∙ closed.none_taken;

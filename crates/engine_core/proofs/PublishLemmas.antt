@@ -35,6 +35,7 @@ module _ {V I W : Type 0} (media : MediaOutside V) (inputs : SourceOutside I) (s
     cut = λ bad. subst (λ l. IsCutAtHead inputs sinks on.begun r.pair.process ⊎ IsCutInCycle inputs sinks (playing l) r.pair.process) rests.entered.played (is.cut bad);
     input = is.input;
     input_short = λ lost. short_stands inputs on r edited refl refl (is.input_short lost);
+    depths = is.depths;
   }
 
   -- the same run, by what a call says that changed it

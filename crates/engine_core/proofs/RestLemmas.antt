@@ -30,6 +30,10 @@ use Rattle.engine_core.specs.Opening.{Given, InRest, Opening}
 use Rattle.engine_core.specs.Shows.{edits_of, made_of, shows}
 use Rattle.engine_core.specs.WentOn.{WentOn}
 use Rattle.engine_core.proofs.GoingLemmas.{Goes, control_goes, does, seen_of, worker_goes}
+use Rattle.engine_core.specs.Fed.{PlaysPlain}
+use Rattle.engine_core.specs.Lost.{LosesNone}
+use Rattle.engine_core.specs.Serial.{PlaysNewest}
+use Rattle.engine_core.proofs.SerialLemmas.{cycle_keeps_up}
 use Rattle.engine_core.specs.Cycles.{MakesAnEntry, MayPlay, PlaysAsMachine}
 use Rattle.engine_core.specs.Due.{IsFinished, is_finished, is_last_made, is_line_due}
 use Rattle.engine_core.specs.Leading.{IsToPlay, PlaysOn}
@@ -125,14 +129,14 @@ module _ {V I C W O : Type 0} (media : MediaOutside V) (inputs : SourceOutside I
         core = f.core;
         tied = f.tied;
         leads = the_rest_begins s cycles (record { letters = letters; lines = lines }) (standing_by f.core e.control.standing replies) f.leads;
-      }) is
+      }) (λ lines replies none was. was none) is
 
   -- ---- a cycle
 
   -- **A cycle is made** where one is next.
   pub cycle_rests : (old : Engine V I C W O) (run : Run V I W) → is_line_due (shows old.run) old.control.standing ≡ false → is_finished old ≡ false → IsUnderWay media inputs sinks opening.started run →
-      WentOn old.run run → PlaysAsMachine s old.run run → IsResting old → IsResting (record { run = run; control = old.control })
-  cycle_rests old run due unfinished under_way went plays is = worker_goes media inputs source sinks sink opening (InRest letters Between) (InRest letters Between) old run went under_way
+      WentOn old.run run → PlaysAsMachine s old.run run → MayPlay old.run → LosesNone old.run run → PlaysNewest old.run run → PlaysPlain s old.run run → IsResting old → IsResting (record { run = run; control = old.control })
+  cycle_rests old run due unfinished under_way went plays may loses newest plain is = worker_goes media inputs source sinks sink opening (InRest letters Between) (InRest letters Between) old run went under_way
       (λ lines replies fine f. let led = plays f.core fine f.tied in
       let is_seen = seen_of s media inputs sinks opening.started old.run refl is.may.under_way cycles f.core is.asked (went.fine fine) f.tied in
       let last : machine.is_finished cycles f.core ≡ is_last_made old.run = (λ i. has_quit (f.tied.rings.edits i) (length (f.tied.rings.edits i)) || sym is_seen.played_out i) in record {
@@ -140,7 +144,7 @@ module _ {V I C W O : Type 0} (media : MediaOutside V) (inputs : SourceOutside I
         tied = led.tied;
         leads = subst (λ k. PlaysOn s k f.core led.core) is.asked led.led (record { letters = letters; lines = lines }) (standing_by f.core old.control.standing replies)
             (cycle_is_next cycles f.core (shows old.run) (is_last_made old.run) old.control.standing replies is_seen last due unfinished) f.leads;
-      }) is
+      }) (λ lines replies none was. cycle_keeps_up s cycles lines replies old.control.standing old.run run due may went loses newest plain (was none)) is
 
   pub cycle_leaves_less : (old : Engine V I C W O) (run : Run V I W) → is_played_out old.run ≡ false → WentOn old.run run → MakesAnEntry old.run run → IsResting old →
       steps_left cycles (record { run = run; control = old.control }) < steps_left cycles old
@@ -158,7 +162,7 @@ module _ {V I C W O : Type 0} (media : MediaOutside V) (inputs : SourceOutside I
           | inl due ↦ a_line_is_carried_out s cycles (record { letters = letters; lines = is.lines }) was now d.taken (d.carries cycles c is.replies seen edits) due gone
           | inr nothing ↦ subst (λ l. HasGoneOn s cycles (record { letters = letters; lines = l }) Between now) (sym (ap (λ l. is.lines ++ l) nothing.none_taken ∙ append-nil is.lines))
               (no_letter_is_needed s cycles (record { letters = letters; lines = is.lines }) Between was now nothing.stays gone)
-        ])
+        ]) (λ none. none)
 
     pub line_leaves_less : is_line_due (shows old.run) old.control.standing ≡ true → steps_left cycles new < steps_left cycles old
     line_leaves_less due = omega (

@@ -1,6 +1,6 @@
 -- What a run that was played leaves, as its caller sees it.
 use Rattle.std.proofs.Common.{◌≡◌, inl, inr, ℕ, suc, length, refl, sym, ap, subst, ◌∙◌}
-use Rattle.std.specs.Prelude.{◌⊎◌, Bool, true, false, List, map, reverse, Option, Some, None, Result, Ok, Err, IfOk}
+use Rattle.std.specs.Prelude.{◌⊎◌, Bool, true, false, List, [], map, reverse, Option, Some, None, Result, Ok, Err, IfOk}
 use Rattle.std.proofs.lemmas.Bool.{or_from, or_parts, true≢false}
 use Rattle.engine_model.specs.Edits.{has_quit}
 use Rattle.ses_io.specs.FixedList.{Listed}
@@ -13,8 +13,9 @@ use Rattle.control_desk.specs.State.{parts_of}
 use Rattle.control_desk.specs.Standing.{read_failed, write_failed}
 use Rattle.engine_core.specs.Takes.{LeavesTakes}
 use Rattle.engine_core.specs.Failed.{IsCounted, has_stopped}
-use Rattle.engine_core.specs.declared.events.Event.{Event}
-use Rattle.engine_core.specs.Events.{Course, letter_of}
+use Rattle.run_letters.specs.declared.event.Event.{Event}
+use Rattle.run_letters.specs.Events.{letter_of}
+use Rattle.engine_core.specs.Events.{Course}
 use Rattle.master_blocks.specs.Laws.{TheMasterIsItsBlocks}
 use Rattle.run_world.specs.declared.finished.Finished.{Finished}
 use Rattle.run_world.specs.declared.opened.Opened.{Opened}
@@ -22,6 +23,7 @@ use Rattle.run_world.specs.declared.opened.Script.{Script}
 use Rattle.engine_core.specs.Beginning.{MayRun, control_of, course_of, started_of}
 use Rattle.engine_core.specs.Finished.{FaultsAreCounted, LeavesRings, SendsGenuine, ended_of, finished_of}
 use Rattle.engine_core.specs.Lines.{GoesByItsLines}
+use Rattle.engine_core.specs.Serially.{GoesSerially}
 use Rattle.engine_core.specs.Mastered.{GetsAFront, GetsTheMaster, MakesItsCycles, ReadsItsInput, WritesTheMaster}
 use Rattle.engine_core.specs.CutOff.{IsCutAtHead, IsCutInCycle}
 use Rattle.engine_core.specs.Played.{IsPlayed}
@@ -29,6 +31,7 @@ use Rattle.engine_core.specs.Started.{now_of}
 use Rattle.worker_pair.specs.Begun.{playing_at}
 use Rattle.engine_core.proofs.AnswerLemmas.{ControlIsCounted, control_counted}
 use Rattle.engine_core.proofs.LinesLemmas as lines
+use Rattle.engine_core.proofs.SeriallyLemmas as serially
 use Rattle.engine_core.proofs.MasteredLemmas as master
 use Rattle.engine_core.proofs.FrontLemmas as front
 
@@ -59,6 +62,9 @@ module _ {M I C W O : Type 0} (media : MediaOutside M) (inputs : SourceOutside I
   Played f = IsPlayed media inputs source sinks sink on f
 
   module _ (f : Finished M I C W O) (x : Played f) where
+    goes_serially : events ≡ [] → GoesSerially o.edition.session (finished_of x.ended (parts_of x.engine.control))
+    goes_serially none = record { takes_all = serially.takes_all media inputs source sinks sink on f x (ap (map letter_of) none); plays = serially.plays media inputs source sinks sink on f x (ap (map letter_of) none) }
+
     goes_by_its_lines : GoesByItsLines source sink o events (finished_of x.ended (parts_of x.engine.control))
     goes_by_its_lines = record {
       lines = x.going.lines;
@@ -79,6 +85,8 @@ module _ {M I C W O : Type 0} (media : MediaOutside M) (inputs : SourceOutside I
       acknowledged = lines.acknowledged media inputs source sinks sink on f x;
       machine = λ fine. lines.is_the_machines media inputs source sinks sink on f x fine;
       plainly = λ fine none. lines.is_plain media inputs source sinks sink on f x fine (ap (map letter_of) none) may.valid may.some_cycle may.near;
+      paced = λ none. serially.paced media inputs source sinks sink on f x (ap (map letter_of) none);
+      serially = goes_serially;
     }
 
     leaves_rings : LeavesRings o (finished_of x.ended (parts_of x.engine.control))

@@ -29,25 +29,30 @@ use Rattle.engine_core.proofs.ServeLemmas.{enters_none, gather_serves}
 pub many_made : {I W : Type 0} (p : ProcessState I W) → length (entries_of p) ≡ length p.journal.items
 many_made p = length-reverse (seen_entries p.journal.items) ∙ length-map p.journal.items seen_entry
 
+-- where a cycle may be made, and none is open, the process may enter
+pub may_enter_now : {V I W : Type 0} (old : Run V I W) → MayPlay old → old.pair.in_cycle ≡ false → may_enter old.pair ≡ true
+may_enter_now {V} {I} {W} old may shut = let many = length old.pair.process.journal.items in let all = old.pair.process.journal.room in
+    and_from (not old.pair.in_cycle && nat_lt many all) (not old.pair.playing.transport.quit)
+    (and_from (not old.pair.in_cycle) (nat_lt many all) (not_from_false old.pair.in_cycle shut) (lt-ltb many all (leb-false all many room.0)))
+    (not_from_false old.pair.playing.transport.quit room.1)
+  where
+    room : (nat_le old.pair.process.journal.room (length old.pair.process.journal.items) ≡ false) × (old.pair.playing.transport.quit ≡ false)
+    room = or_parts (nat_le old.pair.process.journal.room (length old.pair.process.journal.items)) old.pair.playing.transport.quit
+        (or_parts (has_stopped old.failed) (nat_le old.pair.process.journal.room (length old.pair.process.journal.items) || old.pair.playing.transport.quit) may.can_run).1
+
 module _ {V I W : Type 0} (media : MediaOutside V) (inputs : SourceOutside I) (sinks : SinkOutside W) (on : Started V I W) where
   -- where a cycle may be made it is open once the process has entered
   pub entered_opens : (old entered : Run V I W) → MayPlay old → EntersOn old entered → IsUnderWay media inputs sinks on entered → entered.pair.in_cycle ≡ true
   entered_opens old entered may enters is = elim (either old.pair.in_cycle) [
     | inl opens ↦ ap (λ (r : Run V I W). r.pair.in_cycle) (enters_none old entered enters opens) ∙ opens
-    | inr shut ↦ let e = enters.enters goes.0 in e.opens (may_now shut) ∙ not_from_false entered.pair.playing.transport.quit (quits ∙ (λ i. has_quit (e.newest (may_now shut) i) (length (e.newest (may_now shut) i))) ∙ may.unquit)
+    | inr shut ↦ let e = enters.enters goes in e.opens (may_now shut) ∙ not_from_false entered.pair.playing.transport.quit (quits ∙ (λ i. has_quit (e.newest (may_now shut) i) (length (e.newest (may_now shut) i))) ∙ may.unquit)
   ]
     where
-      goes : (has_stopped old.failed ≡ false) × ((nat_le old.pair.process.journal.room (length old.pair.process.journal.items) || old.pair.playing.transport.quit) ≡ false)
-      goes = or_parts (has_stopped old.failed) (nat_le old.pair.process.journal.room (length old.pair.process.journal.items) || old.pair.playing.transport.quit) may.can_run
-
-      room : (nat_le old.pair.process.journal.room (length old.pair.process.journal.items) ≡ false) × (old.pair.playing.transport.quit ≡ false)
-      room = or_parts (nat_le old.pair.process.journal.room (length old.pair.process.journal.items)) old.pair.playing.transport.quit goes.1
+      goes : has_stopped old.failed ≡ false
+      goes = (or_parts (has_stopped old.failed) (nat_le old.pair.process.journal.room (length old.pair.process.journal.items) || old.pair.playing.transport.quit) may.can_run).0
 
       may_now : old.pair.in_cycle ≡ false → may_enter old.pair ≡ true
-      may_now shut = let many = length old.pair.process.journal.items in let all = old.pair.process.journal.room in
-          and_from (not old.pair.in_cycle && nat_lt many all) (not old.pair.playing.transport.quit)
-          (and_from (not old.pair.in_cycle) (nat_lt many all) (not_from_false old.pair.in_cycle shut) (lt-ltb many all (leb-false all many room.0)))
-          (not_from_false old.pair.playing.transport.quit room.1)
+      may_now = may_enter_now old may
 
       quits : entered.pair.playing.transport.quit ≡ has_quit entered.pair.playing.edits (length entered.pair.playing.edits)
       quits = (editions_play_their_places on.begun.session entered.pair.playing is.rests.entered.edition_of).quit

@@ -31,7 +31,7 @@ use Rattle.engine_core.specs.Cycles.{IsServed}
 
 module _ {V I W : Type 0} where
   pub served_itself : (r : Run V I W) → IsServed r r
-  served_itself r = record { edition = refl; asked = refl; made = refl; stays_open = λ e. e; fine = λ e. e }
+  served_itself r = record { edition = refl; asked = refl; made = refl; stays_open = λ e. e; playing = λ e. refl; fine = λ e. e }
 
   pub served_on : (a b c : Run V I W) → IsServed a b → IsServed b c → IsServed a c
   served_on a b c one two = record {
@@ -39,14 +39,15 @@ module _ {V I W : Type 0} where
     asked = two.asked ∙ one.asked;
     made = two.made ∙ one.made;
     stays_open = λ e. two.stays_open (one.stays_open e);
+    playing = λ e. two.playing (one.stays_open e) ∙ one.playing e;
     fine = λ e. one.fine (two.fine e);
   }
 
-  served_by : (old new : Run V I W) → Stays old new → (old.pair.in_cycle ≡ true → new.pair.in_cycle ≡ true) → IsServed old new
-  served_by old new stays opens = record { edition = stays.edition; asked = stays.asked; made = stays.made; stays_open = opens; fine = stays.fine }
+  served_by : (old new : Run V I W) → Stays old new → (old.pair.in_cycle ≡ true → new.pair.in_cycle ≡ true) → (old.pair.in_cycle ≡ true → new.pair.playing ≡ old.pair.playing) → IsServed old new
+  served_by old new stays opens plays = record { edition = stays.edition; asked = stays.asked; made = stays.made; stays_open = opens; playing = plays; fine = stays.fine }
 
   pub turn_serves : (media : MediaOutside V) (on : Started V I W) (old new : Run V I W) (idle : Bool) → TurnsOn media on old idle new → IsServed old new
-  turn_serves media on old new idle turns = served_by old new (turn_stays media on old new idle turns) (λ opens. ap (λ (p : Pair V I W). p.in_cycle) turns.only ∙ opens)
+  turn_serves media on old new idle turns = served_by old new (turn_stays media on old new idle turns) (λ opens. ap (λ (p : Pair V I W). p.in_cycle) turns.only ∙ opens) (λ opens. ap (λ (p : Pair V I W). p.playing) turns.only)
 
   -- where a cycle is open the process enters none
   pub enters_none : (old new : Run V I W) → EntersOn old new → old.pair.in_cycle ≡ true → new ≡ old
@@ -61,6 +62,7 @@ module _ {V I W : Type 0} where
 
   pub enter_serves : (old new : Run V I W) → EntersOn old new → IsServed old new
   enter_serves old new enters = served_by old new (enter_stays old new enters) (λ opens. ap (λ (r : Run V I W). r.pair.in_cycle) (enters_none old new enters opens) ∙ opens)
+      (λ opens. ap (λ (r : Run V I W). r.pair.playing) (enters_none old new enters opens))
 
   gathers_in : (old new : Run V I W) → GathersOn old new → old.pair.in_cycle ≡ true → new.pair.in_cycle ≡ true
   gathers_in old new gathers opens = ap (λ (p : Pair V I W). p.in_cycle) (gathers.looks entered).same ∙ entered
@@ -69,7 +71,9 @@ module _ {V I W : Type 0} where
       entered = ap (λ (r : Run V I W). r.pair.in_cycle) (enters_none old gathers.entered gathers.enters opens) ∙ opens
 
   pub gather_serves : (old new : Run V I W) → GathersOn old new → IsServed old new
-  gather_serves old new gathers = served_by old new (gather_stays old new gathers) (gathers_in old new gathers)
+  gather_serves old new gathers = served_by old new (gather_stays old new gathers) (gathers_in old new gathers) (λ opens.
+      let same = enters_none old gathers.entered gathers.enters opens in
+      ap (λ (p : Pair V I W). p.playing) (gathers.looks (ap (λ (r : Run V I W). r.pair.in_cycle) same ∙ opens)).same ∙ ap (λ (r : Run V I W). r.pair.playing) same)
 
 -- ---- how much is left to do
 
@@ -113,7 +117,7 @@ module _ {V I W : Type 0} where
       failed = ap (λ (b : ButlerState V). b.read_failed) looks.met.butler
 
   -- and so does the process where it enters
-  workers_stand : (old new : Run V I W) → EntersOn old new → (new.pair.process ≡ old.pair.process) × (new.pair.butler ≡ old.pair.butler)
+  pub workers_stand : (old new : Run V I W) → EntersOn old new → (new.pair.process ≡ old.pair.process) × (new.pair.butler ≡ old.pair.butler)
   workers_stand old new enters = elim (either (has_stopped old.failed)) [
     | inl stopped ↦ (ap (λ (r : Run V I W). r.pair.process) (enters.stays stopped), ap (λ (r : Run V I W). r.pair.butler) (enters.stays stopped))
     | inr goes ↦ (ap (λ (p : Pair V I W). p.process) (enters.enters goes).same, ap (λ (p : Pair V I W). p.butler) (enters.enters goes).same)

@@ -26,6 +26,7 @@ use Rattle.engine_core.specs.Started.{Started, AreCounted, now_of}
 use Rattle.engine_core.specs.Letters.{TurnIsB}
 use Rattle.engine_core.specs.CutOff.{IsCutAtHead, IsCutInCycle}
 use Rattle.engine_core.specs.UnderWay.{IsInputOf, IsUnderWay}
+use Rattle.engine_core.proofs.DepthLemmas.{depths_met}
 use Rattle.engine_core.proofs.KeepLemmas.{counted_still, counted_more, items_met, cut_stands, short_stands}
 
 -- ---- by what a turn answers
@@ -174,4 +175,6 @@ module _ {V I W : Type 0} (media : MediaOutside V) (inputs : SourceOutside I) (s
         (ap (λ (z : Pair V I W). z.process.input) only) (ap (λ (z : Pair V I W). z.process.master.sink) only) (under.cut (sym master_failed ∙ broken)));
     input = subst (IsInputOf on) (sym (ap (λ (z : Pair V I W). z.process.input) only)) under.input;
     input_short = λ broken. short_stands inputs on old new (ap (λ (z : Pair V I W). z.process.journal) only) (ap (λ (z : Pair V I W). z.process.input) only) (under.input_short (sym input_failed ∙ broken));
+    depths = depths_met on.begun.session old.pair.process.ends new.pair.process.ends turns.butler.ends new.pair.butler.ends
+        (others_turned media (now_of on old) (rings_of old.pair) answer turns.butler under.rests.serves turns.turn) turns.met under.depths;
   }

@@ -13,8 +13,9 @@ use Rattle.worker_pair.specs.Begun.{begun_with}
 use Rattle.worker_pair.specs.Takes.{MayRecord}
 use Rattle.engine_core.specs.Started.{Started}
 use Rattle.engine_core.specs.declared.engine.Engine.{Engine}
-use Rattle.engine_core.specs.declared.events.Event.{Event}
-use Rattle.engine_core.specs.Events.{Course, given, letter_of}
+use Rattle.run_letters.specs.declared.event.Event.{Event}
+use Rattle.run_letters.specs.Events.{letter_of}
+use Rattle.engine_core.specs.Events.{Course, given}
 use Rattle.engine_core.specs.Going.{IsGoing}
 use Rattle.engine_core.specs.Opening as letters
 use Rattle.engine_core.specs.declared.lists.Lists.{Lists}

@@ -12,6 +12,7 @@ use Rattle.worker_pair.specs.Begun.{playing_at}
 use Rattle.worker_pair.specs.Runs.{Rests}
 use Rattle.engine_core.specs.declared.run.Run.{Run}
 use Rattle.engine_core.specs.Started.{Started, AreCounted, now_of}
+use Rattle.engine_core.specs.Depths.{HaveDepths}
 use Rattle.engine_core.specs.declared.closing.Closed.{Closed}
 use Rattle.engine_core.specs.LastTurns.{AllReceived, TakesLastTurns, at_last}
 
@@ -35,6 +36,7 @@ module _ {V I W : Type 0} where
     pub rests : Rests media (now_of on r) r.pair
     pub counts : AreCounted media inputs sinks on r
     pub opened : r.pair.butler.sources.opened ≡ on.opened
+    pub depths : HaveDepths on.begun.session r.pair.process.ends
 
   -- **The process has ended**, and the butler has nothing left to do.
   pub record IsClosed (media : MediaOutside V) (on : Started V I W) (old : Run V I W) (c : Closed V I W) : Type 0 where
@@ -45,6 +47,7 @@ module _ {V I W : Type 0} where
     -- the process's ends are closed, and keep its promises, over all edits
     pub ends : SayTheSame old.pair.process.ends c.ending.ends
     pub shut : AreShut c.ending.ends
+    pub depths : HaveDepths on.begun.session c.ending.ends
     pub promises : Promises (playing_at (at_last on.begun c.ending)) (reverse (seen_entries c.stopped.journal.items)) c.ending.ends
     -- control took nothing from its ring
     pub control : c.stopped.acks.ring ≡ c.ending.ends.to_control.ring

@@ -29,6 +29,8 @@ module _ {V I W : Type 0} where
     pub asked : new.pair.butler.cycles ≡ old.pair.butler.cycles
     pub made : made_of new ≡ made_of old
     pub stays_open : old.pair.in_cycle ≡ true → new.pair.in_cycle ≡ true
+    -- in the edition that it is in
+    pub playing : old.pair.in_cycle ≡ true → new.pair.playing ≡ old.pair.playing
     -- what had failed has
     pub fine : nothing_failed new.failed ≡ true → nothing_failed old.failed ≡ true
 

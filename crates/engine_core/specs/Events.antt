@@ -1,16 +1,9 @@
--- The letters that events are.
+-- The letters that a run was given.
 use Rattle.std.specs.Prelude.{List, ◌++◌, map}
-use Rattle.machine_model.specs.Letters.{Letter, C, B, E, G, P}
-use Rattle.engine_core.specs.declared.events.Event.{Event}
-use Rattle.engine_core.specs.declared.events.Event.TheVariants.{Control, Butler, Enter, Gather, Cycle}
+use Rattle.machine_model.specs.Letters.{Letter}
+use Rattle.run_letters.specs.declared.event.Event.{Event}
+use Rattle.run_letters.specs.Events.{letter_of}
 use Rattle.engine_core.specs.Opening.{Given, Journey, Opening}
-
-abbrev pub letter_of : Event → Letter
-letter_of Control = C
-letter_of Butler = B
-letter_of Enter = E
-letter_of Gather = G
-letter_of Cycle = P
 
 -- a run that began so, and was given these letters
 pub record Course (V I C W O : Type 0) : Type 0 where

@@ -26,6 +26,7 @@ use Rattle.engine_core.specs.declared.engine.Engine.{Engine}
 use Rattle.engine_core.specs.Carrying.{MayCarry}
 use Rattle.engine_core.specs.Opening.{Journey, Opening, Way, Given, InRest}
 use Rattle.engine_core.specs.Shows.{edits_of, made_of}
+use Rattle.engine_core.specs.Serial.{KeepsUp, letters_of}
 
 -- this way, by these lines, leads to this standing
 abbrev pub LeadsTo : Session → ℕ → Way → List Line → Standing → Type 0
@@ -68,6 +69,8 @@ module _ {V I C W O : Type 0} where
     -- while nothing has failed, butler and process are where the core machine is by these letters and lines
     pub follows : nothing_failed e.run.failed ≡ true →
         Follows on.opening.started.begun.session on.opening.cycles on.way lines (λ core. standing_by core e.control.standing replies) e.run.pair
+    -- and whatever has failed, a run without letters keeps up with its lines
+    pub serial : letters_of on.way ≡ [] → KeepsUp on.opening.started.begun.session on.opening.cycles lines replies e.control.standing e.run
 
   -- by a letter, whichever came before it
   abbrev pub GoesOnBy : MediaOutside V → SourceOutside I → SourceOutside C → SinkOutside W → SinkOutside O → Opening V I C W O → Letter → Engine V I C W O → Engine V I C W O → Type 0

@@ -1,6 +1,7 @@
 -- A run on one thread, whole: its letters, its serial rest, its end, and what it leaves.
 pub mod Failed
 pub mod Started
+pub mod Depths
 pub mod CutOff
 pub mod UnderWay
 pub mod Letters
@@ -8,10 +9,13 @@ pub mod Shows
 pub mod WentOn
 pub mod Carrying
 pub mod Opening
+pub mod LastTurns
+pub mod Lost
+pub mod Fed
+pub mod Serial
 pub mod Going
 pub mod Events
 pub mod Lists
-pub mod LastTurns
 pub mod MachineEnds
 pub mod Closed
 pub mod Parted
@@ -25,6 +29,7 @@ pub mod Left
 pub mod Beginning
 pub mod Finished
 pub mod Machine
+pub mod Serially
 pub mod Lines
 pub mod Mastered
 pub mod Played

@@ -9,15 +9,17 @@ use Rattle.control_desk.specs.GoesOn.{GoesOn}
 use Rattle.control_desk.specs.State.{ControlState, Tells, ahead, parts_of}
 use Rattle.control_desk.specs.Standing as desk
 use Rattle.serial_laws.specs.Truth.{AllHold}
+use Rattle.serial_laws.specs.Paced.{IsPaced}
 use Rattle.piece_item.specs.Views.{ack_of}
 use Rattle.run_world.specs.declared.finished.Finished.{Finished}
 use Rattle.run_world.specs.declared.opened.Opened.{Opened}
-use Rattle.engine_core.specs.declared.events.Event.{Event}
-use Rattle.engine_core.specs.Events.{letter_of}
-use Rattle.engine_core.specs.Failed.{nothing_failed}
+use Rattle.run_letters.specs.declared.event.Event.{Event}
+use Rattle.run_letters.specs.Events.{letter_of}
+use Rattle.engine_core.specs.Failed.{has_stopped, nothing_failed}
 use Rattle.engine_core.specs.Beginning.{control_of}
 use Rattle.engine_core.specs.Finished.{ended_of, failed_of, journal_of}
 use Rattle.engine_core.specs.Machine.{IsPlain, IsTheMachines}
+use Rattle.engine_core.specs.Serially.{GoesSerially}
 
 module _ {M I C W O : Type 0} where
   -- **A run goes by its lines.**
@@ -48,3 +50,7 @@ module _ {M I C W O : Type 0} where
     -- where nothing of butler and process has failed it is the core machine's, and with no event the plain one
     pub machine : nothing_failed (failed_of f.faults) ≡ true → IsTheMachines o.edition.session o.cycles (lines ++ left) (map letter_of events) replies (ended_of f)
     pub plainly : nothing_failed (failed_of f.faults) ≡ true → events ≡ [] → IsPlain o.edition.session o.cycles (lines ++ left) replies (ended_of f)
+    -- and with no event, whatever has failed, entries and replies are by the plain walk over the lines that were taken, no block of a take is
+    -- lost but for a failed write, and each entry plays as the plain one but for a failed read
+    pub paced : events ≡ [] → IsPaced o.edition.session o.cycles (has_stopped (failed_of f.faults)) [] [] lines (journal_of f) replies
+    pub serially : events ≡ [] → GoesSerially o.edition.session f

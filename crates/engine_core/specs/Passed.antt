@@ -38,8 +38,9 @@ pub record IsCaptured (s : Session) (t : ℕ) (journal : List Entry) (ring : Joi
 
 -- What went through the rings of track t.
 pub record IsPassedOn (s : Session) (edits : List Edit) (journal : List Entry) (t : ℕ) (r : TrackRings) : Type 0 where
-  -- the ring of items is of the session's depth
+  -- both rings are of the session's depth
   pub depth : r.plays.depth ≡ s.depth
+  pub take_depth : r.takes.depth ≡ s.depth
   -- what was received are the first of what was sent, and all of it after Closed
   pub items : Whole r.plays
   pub blocks : Whole r.takes
@@ -87,8 +88,9 @@ AreLeft failed rings = (t : ℕ) (r : TrackRings) → slice_get rings t ≡ Some
 
 -- ---- acknowledgements
 
--- The ring to control was closed and nothing was taken from it; each entry was acknowledged in it, or found it full.
+-- The ring to control, of the session's depth, was closed and nothing was taken from it; each entry was acknowledged in it, or found it full.
 pub record IsToldToControl (s : Session) (edits : List Edit) (journal : List Entry) (acks : Joined Ack) : Type 0 where
+  pub depth : acks.depth ≡ s.depth
   pub whole : Whole acks
   pub closed : acks.closed ≡ true
   pub none_taken : acks.received ≡ []

@@ -12,6 +12,7 @@ use Rattle.worker_pair.specs.Runs.{HearsInput, Rests, Runs}
 use Rattle.engine_core.specs.declared.run.Run.{Run}
 use Rattle.engine_core.specs.Failed.{has_stopped, after_cycle}
 use Rattle.engine_core.specs.Started.{Started, now_of, AreCounted}
+use Rattle.engine_core.specs.Depths.{HaveDepths}
 use Rattle.engine_core.specs.CutOff.{IsCutAtHead, IsCutInCycle, IsCutAtEnd, HoldsAll}
 
 module _ {V I W : Type 0} where
@@ -62,6 +63,8 @@ module _ {V I W : Type 0} where
     -- its input is that of the run, and gave the blocks of the entries where a read of it failed
     pub input : IsInputOf on r.pair.process.input
     pub input_short : r.failed.input ≡ true → InputIsShort inputs on r
+    -- the rings have their depths
+    pub depths : HaveDepths on.begun.session r.pair.process.ends
 
   -- Its end was given to the master: all of it, or where a write failed a front.
   pub record EndsMaster (sinks : SinkOutside W) (on : Started V I W) (old new : Run V I W) : Type 0 where

@@ -2,6 +2,9 @@
 ghost use Rattle.machine_model.specs.Rest.{BeforeTurn, BeforeEntry};
 ghost use Rattle.engine_core.specs.Started.{Started};
 ghost use Rattle.engine_core.specs.UnderWay.{IsUnderWay};
+ghost use Rattle.engine_core.specs.Fed.{Feeds, PlaysPlain};
+ghost use Rattle.engine_core.specs.Lost.{CapturesStand, IsFlushed, LosesNone};
+ghost use Rattle.engine_core.specs.Serial.{PlaysNewest};
 ghost use Rattle.engine_core.specs.WentOn.{WentOn};
 ghost use Rattle.engine_core.specs.Cycles.{EndsIdle, GoesAsMachine, IsServed, MakesAnEntry, MayPlay, PlaysAsMachine};
 
@@ -14,7 +17,10 @@ fn serve<M: Media, I: Source, W: Sink>(run: &mut Run<M, I, W>)
     requires { IsUnderWay M.outside I.outside W.outside on run.old }
     ensures under_way { IsUnderWay M.outside I.outside W.outside on run.new }
     ensures served { IsServed run.old run.new }
+    ensures captures { CapturesStand run.old run.new }
     ensures ends_idle { EndsIdle M.outside on run.new }
+    ensures flushed { IsFlushed run.new }
+    ensures feeds { Feeds on.begun.session run.old run.new }
     ensures as_machine { GoesAsMachine on.begun.session BeforeTurn BeforeEntry run.old run.new }
 {
     'serving: loop {
@@ -34,6 +40,9 @@ pub(crate) fn serial_cycle<M: Media, I: Source, W: Sink>(run: &mut Run<M, I, W>)
     ensures under_way { IsUnderWay M.outside I.outside W.outside on run.new }
     ensures went_on { WentOn run.old run.new }
     ensures makes { MakesAnEntry run.old run.new }
+    ensures loses_none { LosesNone run.old run.new }
+    ensures newest { PlaysNewest run.old run.new }
+    ensures plays_plain { PlaysPlain on.begun.session run.old run.new }
     ensures as_machine { PlaysAsMachine on.begun.session run.old run.new }
 {
     run.enter();

@@ -1,25 +1,12 @@
 //! The events that a run is given, before its serial rest.
-ghost use Rattle.engine_core.specs.Events.{Course, and_given, given, letter_of};
+ghost use Rattle.run_letters.specs.Events.{letter_of};
+ghost use Rattle.engine_core.specs.Events.{Course, and_given, given};
 ghost use Rattle.engine_core.specs.Going.{GoesOnBy, IsGoing, MayGoOn};
 ghost use Rattle.engine_core.specs.Opening.{Opening};
 
 use crate::engine::Engine;
+use run_letters::Event;
 use ses_io::{Media, Sink, Source};
-
-/// What happens on one thread, one thing after another.
-#[derive(Clone, Copy, Debug, PartialEq, Eq)]
-pub enum Event {
-    /// Control carries out one line.
-    Control,
-    /// The butler enters the newest edition, and makes a turn of one item.
-    Butler,
-    /// The process enters the newest edition, where it hasn't since its last entry.
-    Enter,
-    /// The process enters likewise, and looks once at each track.
-    Gather,
-    /// The process does the same, and then makes a cycle.
-    Cycle,
-}
 
 impl<M: Media, I: Source, C: Source, W: Sink, O: Sink> Engine<M, I, C, W, O> {
     /// One event. What can't be done is left: past the cycles that were asked, after a fault of the

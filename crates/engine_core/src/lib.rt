@@ -19,5 +19,5 @@ mod rest;
 mod run;
 mod running;
 
-pub use events::Event;
+pub use run_letters::Event;
 pub use running::run_events;

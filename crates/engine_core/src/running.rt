@@ -10,12 +10,12 @@ ghost use Rattle.engine_core.specs.Played.{IsPlayed};
 
 use crate::beginning::begin;
 use crate::engine::Engine;
-use crate::events::Event;
 use crate::finishing::finish;
 use crate::parting::Ended;
 use crate::rest::play_on;
 use control_desk::ControlParts;
 use master_blocks::the_master_is_its_blocks;
+use run_letters::Event;
 use run_world::{Faults, Finished, Opened};
 use ses_io::{Media, Sink, Source, World};
 use std::alloc::Global;

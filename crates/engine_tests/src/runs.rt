@@ -28,7 +28,7 @@ use row::{Ends, Row};
 use ses_io::{MemMedia, MemSink, MemSource, NoMemory, World};
 use ses_units::Name;
 use session_model::{Part, Place, SessionRefusal};
-use session_run::{FileRefusal, Outcome, Status, run};
+use session_run::{FileRefusal, Outcome, Status, run, run_alone};
 use std::alloc::Global;
 use std::sync::Wait;
 use std::thread::Threads;
@@ -160,7 +160,7 @@ where
     R: Threads + Wait + Sync,
 {
     let world = given(alloc, row)?;
-    let mut world = run(rt, alloc, &["migrate", "s.toml"], world).world;
+    let mut world = run_alone(alloc, &["migrate", "s.toml"], world).world;
     world.media.put("s.toml", world.out.bytes().to_vec(alloc)?)?;
     world.out = MemSink::new(alloc, Vec::new(alloc));
     ran(rt, alloc, world, row)

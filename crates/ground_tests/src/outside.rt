@@ -4,6 +4,7 @@ mod files;
 mod folders;
 mod lists;
 mod memory;
+mod standing;
 
 use ses_io::{Failed, Media, MemMedia};
 use std::alloc::Global;

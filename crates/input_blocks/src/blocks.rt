@@ -8,7 +8,7 @@ ghost use Rattle.input_blocks.specs.State.{SoFar, from_here, one_more, IsReadTo,
 
 use crate::fault::InputFault;
 use crate::filling::fill;
-use ses_io::Source;
+use ses_io::{FixedList, Source};
 use std::alloc::Global;
 use std::marker::Model;
 use wav_codec::WavInfo;
@@ -29,8 +29,8 @@ pub struct InputBlocks<I: Source> {
     info: WavInfo,
     block: u32,
     done: u64,
-    bytes: Vec<u8>,
-    samples: Vec<i32>,
+    bytes: FixedList<u8>,
+    samples: FixedList<i32>,
 }
 
 impl<I: Source> Model for InputBlocks<I> {
@@ -87,8 +87,8 @@ impl<I: Source> InputBlocks<I> {
             info,
             block,
             done: 0,
-            bytes,
-            samples,
+            bytes: FixedList::from_vec(bytes),
+            samples: FixedList::from_vec(samples),
         })
     }
 

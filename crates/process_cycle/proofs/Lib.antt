@@ -1,6 +1,7 @@
 -- What stands of a process while it looks, meets and makes entries.
 pub mod CountedLemmas
 pub mod ToldLemmas
+pub mod SettledLemmas
 pub mod CapturedLemmas
 pub mod BlockLemmas
 pub mod TruthLemmas

@@ -1,5 +1,5 @@
 -- What a ring of acknowledgements was told of: each entry in order, but for those that found it full.
-use Rattle.std.specs.Prelude.{◌≡◌, ◌⊎◌, ℕ, ◌+◌, List, [], ◌∷◌, length, map, reverse, Some}
+use Rattle.std.specs.Prelude.{◌≡◌, ◌⊎◌, ℕ, ◌+◌, ◌-◌, ◌<◌, List, [], ◌∷◌, length, map, reverse, slice_get, Some}
 use Rattle.session_model.specs.declared.edit.Edit.{Edit}
 use Rattle.engine_model.specs.Journal.{Entry}
 use Rattle.engine_model.specs.Due.{Ack}
@@ -30,6 +30,13 @@ abbrev pub AreTold : List Edit → ℕ → List Entry → List Ack → List ℕ 
 AreTold edits depth [] acks heads = (acks ≡ []) × (heads ≡ [])
 AreTold edits depth (e ∷ before) acks heads = WasPut edits e before acks (λ earlier. AreTold edits depth before earlier heads)
     ⊎ FoundNoRoom depth acks heads (λ earlier. AreTold edits depth before acks earlier)
+
+-- An acknowledgement names its entry of a journal, from 1, and what that has settled.
+pub record IsSettledBy (journal : List Entry) (a : Ack) : Type 0 where
+  pub some : 0 < a.cycle
+  pub entry : Entry
+  pub there : slice_get journal (a.cycle - 1) ≡ Some entry
+  pub settled : a.settled ≡ entry.settled
 
 -- the ring whose end that puts this is
 abbrev pub IsToldOf : List Edit → ℕ → List Entry → Sender boxed.Ack → Type 0

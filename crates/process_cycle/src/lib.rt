@@ -3,7 +3,8 @@
 //!
 //! To *gather* is one look of each track, in the edition that it is given. A *cycle* reads a block
 //! of the input, mixes and writes the master, captures the tracks that are recorded, notes its
-//! entry, and acknowledges it to butler and control. Neither takes memory, a lock or a wait.
+//! entry, and acknowledges it to butler and control. Neither takes memory or a lock, nor waits for
+//! another worker.
 #![tactic(auto)]
 
 mod ack_sender;
@@ -18,6 +19,6 @@ mod putting;
 
 pub use ends::ProcessEnds;
 pub use fault::CycleFault;
-pub use laws::{promises_are_counted, promises_are_truthful};
+pub use laws::{promises_are_counted, promises_are_truthful, told_is_settled};
 pub use meeting::meet_ends;
 pub use process::{Look, Process, ProcessParts};

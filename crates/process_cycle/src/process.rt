@@ -18,7 +18,7 @@ use edition_log::Edition;
 use input_blocks::InputBlocks;
 use master_blocks::MasterBlocks;
 pub use parts::ProcessParts;
-use ses_io::{Sink, Source};
+use ses_io::{FixedList, Sink, Source};
 use std::alloc::Global;
 use std::marker::Model;
 use stores::{Stores, new_stores};
@@ -43,8 +43,8 @@ pub struct Process<I: Source, W: Sink> {
     input: InputBlocks<I>,
     master: MasterBlocks<W>,
     ends: ProcessEnds,
-    playbacks: Vec<TrackPlayback>,
-    captures: Vec<TrackCapture>,
+    playbacks: FixedList<TrackPlayback>,
+    captures: FixedList<TrackCapture>,
     journal: Journal,
     depth: u32,
     generation: u32,
@@ -139,6 +139,6 @@ impl<I: Source, W: Sink> Process<I, W> {
     pub fn closed(&self) -> bool
         ensures { result ≡ list_any (λ r. r.ended) self.now.ends.plays.items }
     {
-        any_closed(&self.playbacks)
+        any_closed(self.playbacks.as_slice())
     }
 }

@@ -2,8 +2,8 @@
 use Rattle.std.proofs.Common.{◌≡◌, ℕ, suc, ◌+◌, ◌-◌, ◌<◌, sym, ap, ◌∙◌, arith, List, [], ◌∷◌, ◌++◌, map}
 use Rattle.std.proofs.lemmas.List.{append_assoc, map-append}
 use Rattle.machine_model.specs.Letters.{Letter}
-use Rattle.engine_core.specs.Events.{letter_of}
-use Rattle.engine_core.specs.declared.events.Event.{Event}
+use Rattle.run_letters.specs.Events.{letter_of}
+use Rattle.run_letters.specs.declared.event.Event.{Event}
 use Rattle.run_letters.specs.Letters.{letter_of_number, next_number, seed_letters}
 
 pub one_more : (events now : List Event) (e : Event) (end k x : ℕ) (all : List Letter) → k < end → now ≡ events ++ e ∷ [] → letter_of e ≡ letter_of_number (next_number x) →

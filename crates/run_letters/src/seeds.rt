@@ -1,9 +1,9 @@
 //! Letters from a seed.
 ghost use Rattle.std.specs.Prelude.{◌≡◌, ◌*◌, ◌≤◌, map, IfOk};
-ghost use Rattle.engine_core.specs.Events.{letter_of};
+ghost use Rattle.run_letters.specs.Events.{letter_of};
 ghost use Rattle.run_letters.specs.Letters.{letter_of_number, next_number, seed_letters};
 
-use engine_core::Event;
+use crate::event::Event;
 use ses_io::NoMemory;
 use std::alloc::Global;
 

@@ -1,9 +1,9 @@
 //! Letters as they are written.
 ghost use Rattle.std.specs.Prelude.{◌≡◌, map, IfOk};
-ghost use Rattle.engine_core.specs.Events.{letter_of};
+ghost use Rattle.run_letters.specs.Events.{letter_of};
 ghost use Rattle.run_letters.specs.Letters.{letter_written, letters_in};
 
-use engine_core::Event;
+use crate::event::Event;
 use ses_io::NoMemory;
 use std::alloc::Global;
 

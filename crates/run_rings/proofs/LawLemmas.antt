@@ -1,6 +1,7 @@
 -- What the ends of new rings are to those that get them.
-use Rattle.std.proofs.Common.{◌≡◌, ℕ, ◌<◌, false, List, [], length, sym, ap, arith, ◌∙◌}
-use Rattle.std.specs.Prelude.{slice_index_or}
+use Rattle.std.proofs.Common.{◌≡◌, ℕ, ◌<◌, false, List, [], length, sym, ap, subst, arith, ◌∙◌}
+use Rattle.std.specs.Prelude.{slice_get, slice_index_or, Some}
+use Rattle.std.proofs.lemmas.Option.{slice_get_within, get_or_from_slice_get}
 use Rattle.session_model.specs.declared.session.Session.{Session}
 use Rattle.disk_ring.specs.Sender.{Sender}
 use Rattle.disk_ring.specs.Receiver.{Receiver}
@@ -56,6 +57,13 @@ module _ {T : Type 0} (s : Session) (many : ℕ) (a : List (Sender T)) (b : List
     ring = λ t x y within. one_ring s.depth (block_of s t) (slice_index_or a t x) (slice_index_or b t y) (all.2 t x y (omega (arith, all.0, within)));
   }
 
+  -- by what a list has at a place
+  pub in_there : (t : ℕ) (x : Sender T) → slice_get a t ≡ Some x → IsNewIn s.depth (block_of s t) x
+  in_there t x here = subst (IsNewIn s.depth (block_of s t)) (get_or_from_slice_get a t x x here) (each_in x t x (omega (arith, slice_get_within a t x here, all.0)))
+
+  pub out_there : {S : Type 0} → Sender S → (t : ℕ) (y : Receiver T) → slice_get b t ≡ Some y → IsNewOut s.depth (block_of s t) y
+  out_there d t y here = subst (IsNewOut s.depth (block_of s t)) (get_or_from_slice_get b t y y here) (each_out d t y (omega (arith, slice_get_within b t y here, all.1)))
+
 -- ---- the run's
 
 pub new_fit : NewEndsFit
@@ -68,6 +76,14 @@ new_fit s w new = let many = length s.tracks.items in let ours = w.process in le
     to_butler = new_in s.depth 0 ours.to_butler theirs.acks new.to_butler;
     to_control = new_in s.depth 0 ours.to_control w.acks new.to_control;
   };
+  serving = record {
+    tracks = new.items.0;
+    each = in_there s many theirs.sends.items ours.plays.items new.items;
+    captures = new.takes.1;
+    each_capture = out_there s many ours.takes.items theirs.takes.items new.takes d;
+    acks = new_out s.depth 0 ours.to_butler theirs.acks new.to_butler;
+  };
+  hearing = new_out s.depth 0 ours.to_control w.acks new.to_control;
   butler = record {
     plays = of_one_ring s many theirs.sends.items ours.plays.items new.items;
     takes = of_one_ring s many ours.takes.items theirs.takes.items new.takes;

@@ -9,7 +9,7 @@ use ses_io::NoMemory;
 use std::alloc::Global;
 
 /// What travels in the boxes of a ring.
-pub(crate) trait Husk: Roomy + Drop + Sized {
+pub trait Husk: Roomy + Drop + Sized {
     ghost room_for: { ℕ → ℕ };
 
     /// An empty box with so many samples, where it has any.
@@ -53,8 +53,8 @@ fn husks<T: Husk>(alloc: Global, count: u32, samples: u32) -> Result<Vec<Box<T>>
     Ok(husks)
 }
 
-/// A new ring of so many boxes.
-pub(crate) fn new_ring<T: Husk>(
+/// A new ring of so many boxes, each with so many samples, where it has any.
+pub fn new_ring<T: Husk>(
     alloc: Global,
     depth: u32,
     samples: u32,

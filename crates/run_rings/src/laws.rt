@@ -2,7 +2,8 @@
 //! contract is the law.
 ghost use Rattle.run_rings.specs.Laws.{NewEndsFit};
 
-/// The process's ends are new, the butler's are the other ends of their rings, and so is control's.
+/// The ends of process, butler and control are new; the butler's are the other ends of the
+/// process's rings, and so is control's.
 pub fn new_ends_fit()
     ensures { NewEndsFit }
 {}

@@ -9,6 +9,7 @@ mod laws;
 mod rings;
 mod run_ends;
 
+pub use husks::{Husk, new_ring};
 pub use joining::{JoinedRings, RingsList, TrackRings, join_ends};
 pub use laws::new_ends_fit;
 pub use run_ends::{RunEnds, new_run_ends};

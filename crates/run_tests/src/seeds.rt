@@ -1,7 +1,6 @@
 //! Letters of seeds, worked out beside the code: a number follows a number x as x * 6364136223846793005 + 1442695040888963407, of which 64 bits
 //! stand, and its top three bits are the letter: 0 is c, 1 to 4 are b, 5 is e, 6 is g and 7 is p.
-use engine_core::Event;
-use run_letters::seeded;
+use run_letters::{Event, seeded};
 use run_rows::{Ended, NOTHING, Row, SERIAL, ran_by, world_of};
 use ses_io::NoMemory;
 use std::alloc::Global;

@@ -4,3 +4,4 @@ pub mod GivenLemmas
 pub mod RestLemmas
 pub mod AnsweredLemmas
 pub mod TruthLemmas
+pub mod PacedLemmas

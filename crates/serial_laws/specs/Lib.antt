@@ -3,4 +3,5 @@ pub mod Standing
 pub mod Leads
 pub mod SerialLaws
 pub mod Answered
+pub mod Paced
 pub mod Truth

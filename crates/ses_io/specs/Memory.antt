@@ -45,8 +45,3 @@ after_reading m (Err _) = record m { plan = counted m.plan; read_faults = risen 
 abbrev pub after_writing : {T E : Type 0} → MediaState → List StoredFile → Result T E → MediaState
 after_writing m files (Ok _) = record m { plan = counted m.plan; files = files }
 after_writing m files (Err _) = record m { plan = counted m.plan; write_faults = risen m.write_faults }
-
--- what contracts see of a folder: how many of its calls failed
-pub record Counts : Type 0 where
-  pub read_faults : ℕ
-  pub write_faults : ℕ

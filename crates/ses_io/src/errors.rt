@@ -1,6 +1,5 @@
 //! The two plain errors: a fault of the outside, and want of memory.
 ghost use Rattle.std.specs.Prelude.{◌≡◌};
-ghost use Rattle.ses_io.specs.Faults.{HasCause};
 
 use std::alloc::{AllocError, AllocFailed};
 
@@ -32,15 +31,4 @@ impl<T: Drop> From<AllocFailed<T>> for NoMemory {
     fn from(_error: AllocFailed<T>) -> NoMemory {
         NoMemory
     }
-}
-
-/// Hands the outcome on; a fault raises the count, which stands still at its type's end.
-pub(crate) fn counted<T>(faults: &mut u64, outcome: Result<T, Failed>) -> Result<T, Failed>
-    ensures outcome { result ≡ outcome }
-    ensures cause { HasCause faults.old faults.new result }
-{
-    if outcome.is_err() {
-        *faults = faults.saturating_add(1);
-    }
-    outcome
 }

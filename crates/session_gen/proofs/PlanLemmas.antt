@@ -9,7 +9,7 @@ use Rattle.session_model.specs.declared.session.Session.{Session}
 use Rattle.session_toml.specs.Session.{session}
 use Rattle.session_opening.specs.Plan.{Open, Wrong, SessionRefused, ◌>>=◌, read, read_session, session_plan, sources_in}
 use Rattle.made_session.specs.Made.{made_session}
-use Rattle.session_play.specs.Sounds.{sounds_in}
+use Rattle.session_opening.specs.Sounds.{sounds_in}
 use Rattle.session_gen.specs.Files.{HasMade}
 use Rattle.session_gen.specs.Gen.{sounds}
 

@@ -1,4 +1,5 @@
 -- Lemmas of the opening.
 pub mod SourceLaws
 pub mod PlanLaws
+pub mod SoundLemmas
 mod PlanVectors

@@ -2,4 +2,6 @@
 pub mod Causes
 pub mod Plan
 pub mod Answers
+pub mod Status
+pub mod Sounds
 pub mod Laws

@@ -22,9 +22,9 @@ use Rattle.run_world.specs.declared.finished.Finished.{Finished}
 use Rattle.run_world.specs.declared.opened.Opened.{Opened}
 use Rattle.run_world.specs.declared.opened.Script.{Script}
 use Rattle.engine_core.specs.Beginning.{control_of}
-use Rattle.engine_core.specs.Events.{letter_of}
+use Rattle.run_letters.specs.Events.{letter_of}
 use Rattle.engine_core.specs.Lines.{GoesByItsLines}
-use Rattle.engine_core.specs.declared.events.Event.{Event}
+use Rattle.run_letters.specs.declared.event.Event.{Event}
 use Rattle.session_play.specs.Controlled.{GoesByLines, ReadsItsLines, SaysItsOwn, quits}
 use Rattle.session_play.specs.Reported.{said}
 use Rattle.session_play.specs.Request.{Request}
@@ -202,7 +202,7 @@ module _ {M I C W O : Type 0} (source : SourceOutside C) (sink : SinkOutside O) 
   abbrev pub asked : List ℕ → Request
   asked name = record { session = name; cycles = o.cycles; script = option_map (λ q. q.from) o.script; letters = map letter_of events }
 
-  none_given : (es : List Event) → map letter_of es ≡ [] → es ≡ []
+  pub none_given : (es : List Event) → map letter_of es ≡ [] → es ≡ []
   none_given [] e = refl
   none_given (e ∷ es) is = absurd (cc)
 
@@ -220,5 +220,5 @@ module _ {M I C W O : Type 0} (source : SourceOutside C) (sink : SinkOutside O) 
     scripted = (by_script o.script g.goes g.all).0;
     read = (by_script o.script g.goes g.all).1;
     answered = record { quit = left_is; edits = g.taken; replies_are = g.replied; all_edits = g.edits; all_replies = g.answered; holds = g.holds; acknowledged = g.acknowledged };
-    machine = record { machine = g.machine; plainly = λ fine none. g.plainly fine (none_given events none) };
+    machine = record { machine = g.machine; plainly = λ fine none. g.plainly fine (none_given events none); paced = λ none. g.paced (none_given events none) };
   }

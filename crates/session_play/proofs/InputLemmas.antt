@@ -13,7 +13,7 @@ use Rattle.input_blocks.specs.Rest.{rest_sound, stream_told}
 use Rattle.input_blocks.specs.Laws.{SoundOfTheRest}
 use Rattle.input_head.specs.Input.{InputWrong, ◌>>=◌, fitting, input_head, read, wanted_channels}
 use Rattle.input_head.specs.Taken.{StandsBehind}
-use Rattle.session_play.specs.Sounds.{bytes_of_block, input_left, input_sound, left_after}
+use Rattle.session_opening.specs.Sounds.{bytes_of_block, input_left, input_sound, left_after}
 
 -- ---- what was told
 

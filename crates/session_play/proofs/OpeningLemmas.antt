@@ -16,7 +16,7 @@ use Rattle.session_opening.specs.declared.unopened.Unopened.{Unopened}
 use Rattle.session_opening.specs.declared.unopened.Unopened.TheVariants as unopened
 use Rattle.session_opening.specs.Answers.{Caused, Refuses}
 use Rattle.session_opening.specs.Plan.{Open, Wrong, SessionRefused}
-use Rattle.session_play.specs.Ending.{IsUnread, Says, status_of}
+use Rattle.session_opening.specs.Status.{IsUnread, Says, status_of}
 use Rattle.session_play.specs.Loading.{IsHeard, IsLoadedFor, IsRefused, IsUnheard, LoadCause, SaysUnheard}
 use Rattle.session_play.specs.Opening.{IsTold, SaysInput, TakesAreThere, TellsWrong, opens}
 use Rattle.session_play.specs.Request.{Request, records}

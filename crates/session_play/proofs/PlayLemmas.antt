@@ -16,8 +16,8 @@ use Rattle.audio_source.specs.Refusals.{NoFile, source_head}
 use Rattle.cycle_journal.specs.declared.status.Status.{Status}
 use Rattle.cycle_journal.specs.declared.status.Status.TheVariants.{ReadFault, InputFault, BadInput, NoMemory}
 use Rattle.engine_core.specs.Beginning.{MayRun}
-use Rattle.engine_core.specs.Events.{letter_of}
-use Rattle.engine_core.specs.declared.events.Event.{Event}
+use Rattle.run_letters.specs.Events.{letter_of}
+use Rattle.run_letters.specs.declared.event.Event.{Event}
 use Rattle.std.proofs.lemmas.Option.{slice_get_cases, slice_get_within}
 use Rattle.fault_lines.specs.Fault.{fault_line}
 use Rattle.input_blocks.specs.Laws.{SoundOfTheRest}

@@ -36,7 +36,7 @@ use Rattle.engine_core.specs.Mastered.{GetsAFront, GetsTheMaster, InputFell, IsC
 use Rattle.engine_core.specs.Passed.{AllGenuine}
 use Rattle.engine_core.specs.Takes.{LeavesTakes}
 use Rattle.engine_core.specs.UnderWay.{IsInputOf}
-use Rattle.engine_core.specs.declared.events.Event.{Event}
+use Rattle.run_letters.specs.declared.event.Event.{Event}
 use Rattle.session_play.specs.declared.outcome.Outcome.{Outcome}
 use Rattle.session_play.specs.Counted.{AreCounted}
 use Rattle.session_play.specs.Loading.{IsHeard, IsLoadedFor}
@@ -45,11 +45,11 @@ use Rattle.session_play.specs.Ready.{loaded_of}
 use Rattle.session_play.specs.Recorded.{GetsItsMaster, LeavesItsRings, LeavesItsTakes, ReadsItsInput}
 use Rattle.session_play.specs.Reported.{IsStill, Reports, TellsOut, head_of, reported_with, said, told}
 use Rattle.session_play.specs.Request.{Request}
-use Rattle.session_play.specs.Sounds.{bytes_of_block, input_left, sounds_in}
-use Rattle.session_play.proofs.ControlLemmas.{HasReplies, asked, by_lines, has_replies}
+use Rattle.session_opening.specs.Sounds.{bytes_of_block, input_left, sounds_in}
+use Rattle.session_play.proofs.ControlLemmas.{HasReplies, asked, by_lines, has_replies, none_given}
 use Rattle.session_play.proofs.InputLemmas.{block_is, left_is, sound_is}
 use Rattle.session_play.proofs.ReportLemmas.{both_whole, front_behind, front_of_more}
-use Rattle.session_play.proofs.SoundLemmas.{sounds_are}
+use Rattle.session_opening.proofs.SoundLemmas.{sounds_are}
 
 -- ---- out
 
@@ -246,6 +246,7 @@ module _ {M I C W O : Type 0} (media : MediaOutside M) (inputs : SourceOutside I
       lines = leaves.lines.lines;
       replies = replies;
       by_lines = by_lines controls outs o events f leaves.lines name;
+      serial = λ none. leaves.lines.serially (none_given controls outs o events f leaves.lines events none);
       master = gets_master;
       input = reads_input;
       takes = leaves_takes;

@@ -7,6 +7,7 @@ use Rattle.session_model.specs.declared.edit.Edit.{Edit}
 use Rattle.engine_model.specs.Edits.{has_quit}
 use Rattle.engine_model.specs.Lines.{Line, accepted_of, control_limit, is_too_long}
 use Rattle.engine_model.specs.Replies.{Reply, AreReplies, is_acknowledged}
+use Rattle.serial_laws.specs.Paced.{IsPaced}
 use Rattle.serial_laws.specs.Truth.{AllHold}
 use Rattle.edit_script.specs.Reading.{read_line}
 use Rattle.control_lines.specs.Lines.{LinesState, at_first}
@@ -15,7 +16,7 @@ use Rattle.control_desk.specs.State.{export_lines, lines_in}
 use Rattle.piece_item.specs.Views.{ack_of}
 use Rattle.run_world.specs.declared.finished.Faults.{Faults}
 use Rattle.run_world.specs.declared.finished.Finished.{Finished}
-use Rattle.engine_core.specs.Failed.{nothing_failed}
+use Rattle.engine_core.specs.Failed.{has_stopped, nothing_failed}
 use Rattle.engine_core.specs.Finished.{ended_of, failed_of, journal_of}
 use Rattle.engine_core.specs.Machine.{IsPlain, IsTheMachines}
 use Rattle.session_play.specs.Request.{Request}
@@ -67,10 +68,11 @@ module _ {M I C W O : Type 0} where
     pub acknowledged : list_all (is_acknowledged (reverse (map ack_of f.acks.sent)) (journal_of f)) replies ≡ true
 
   -- **Where nothing of butler and process has failed the run is the core machine's** by its letters and a serial rest, and with no letter
-  -- the plain run of its lines.
+  -- the plain run of its lines. With no letter entries and replies are by the plain walk over the lines, whatever has failed.
   pub record IsOfMachine (s : Session) (r : Request) (f : Finished M I C W O) (lines left : List Line) (replies : List Reply) : Type 0 where
     pub machine : nothing_failed (failed_of f.faults) ≡ true → IsTheMachines s r.cycles (lines ++ left) r.letters replies (ended_of f)
     pub plainly : nothing_failed (failed_of f.faults) ≡ true → r.letters ≡ [] → IsPlain s r.cycles (lines ++ left) replies (ended_of f)
+    pub paced : r.letters ≡ [] → IsPaced s r.cycles (has_stopped (failed_of f.faults)) [] [] lines (journal_of f) replies
 
   -- **From bytes**: by these lines and replies the run has gone.
   pub record GoesByLines (controls : SourceOutside C) (old : C) (r : Request) (s : Session) (f : Finished M I C W O) (lines : List Line) (replies : List Reply) : Type 0 where

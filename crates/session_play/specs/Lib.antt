@@ -1,6 +1,5 @@
 -- What a run is asked for, what keeps it from being played, and what it leaves where it is.
 pub mod Request
-pub mod Sounds
 pub mod Ending
 pub mod Opening
 pub mod Loading

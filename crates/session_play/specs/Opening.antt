@@ -11,7 +11,7 @@ use Rattle.cycle_journal.specs.declared.status.Status.{Status}
 use Rattle.cycle_journal.specs.declared.status.Status.TheVariants.{Session, SourceFile, InputFault, BadInput, TakesExist}
 use Rattle.input_head.specs.Input.{InputWrong, input_head, wrong_of}
 use Rattle.session_opening.specs.Plan.{Open, Wrong, SessionRefused, SourceRefused, session_plan}
-use Rattle.session_play.specs.Ending.{IsUnread, Says}
+use Rattle.session_opening.specs.Status.{IsUnread, Says}
 use Rattle.session_play.specs.Request.{Request, records}
 
 -- the session of the file, where the files of all its sources are opened

@@ -1,5 +1,5 @@
 -- **A run that was played**, from the bytes of its files to what it leaves.
-use Rattle.std.specs.Prelude.{◌≡◌, true, List, Option, Some, None, Ok, IsOk}
+use Rattle.std.specs.Prelude.{◌≡◌, true, List, [], Option, Some, None, Ok, IsOk}
 use Rattle.ses_io.specs.Outside.{MediaOutside, SourceOutside, SinkOutside}
 use Rattle.ses_io.specs.declared.world.World.{World}
 use Rattle.session_model.specs.declared.session.Session.{Session}
@@ -7,6 +7,7 @@ use Rattle.session_model.specs.Valid.{IsValid}
 use Rattle.engine_model.specs.Lines.{Line}
 use Rattle.engine_model.specs.Replies.{Reply}
 use Rattle.run_world.specs.declared.finished.Finished.{Finished}
+use Rattle.engine_core.specs.Serially.{GoesSerially}
 use Rattle.session_play.specs.declared.outcome.Outcome.{Outcome}
 use Rattle.session_play.specs.Controlled.{GoesByLines}
 use Rattle.session_play.specs.Counted.{AreCounted}
@@ -44,6 +45,8 @@ module _ {M I C W O : Type 0} where
     pub lines : List Line
     pub replies : List Reply
     pub by_lines : GoesByLines controls old.control r session finished lines replies
+    -- without letters no block of a take is lost, unless a write of the media has failed
+    pub serial : r.letters ≡ [] → GoesSerially session finished
     pub master : GetsItsMaster media masters old r session finished
     pub input : ReadsItsInput inputs old.input session finished
     pub takes : LeavesItsTakes media inputs old r session finished

@@ -4,7 +4,7 @@ use Rattle.ses_io.specs.Outside.{MediaOutside, SourceOutside, OnlyReads}
 use Rattle.ses_io.specs.declared.world.World.{World}
 use Rattle.cycle_journal.specs.declared.status.Status.{Status}
 use Rattle.cycle_journal.specs.declared.status.Status.TheVariants.{InputFault, ReadFault}
-use Rattle.engine_core.specs.Events.{letter_of}
+use Rattle.run_letters.specs.Events.{letter_of}
 use Rattle.run_world.specs.declared.opened.Opened.{Opened}
 use Rattle.session_opening.specs.declared.loading.Loaded.{Loaded}
 use Rattle.session_play.specs.declared.playing.Ready.{Ready}

@@ -15,7 +15,7 @@ use Rattle.engine_core.specs.Mastered.{IsCutOff}
 use Rattle.engine_core.specs.Passed.{AllGenuine, AreLeft, IsToldToControl, PassedOn}
 use Rattle.session_play.specs.Controlled.{quits}
 use Rattle.session_play.specs.Request.{Request, records}
-use Rattle.session_play.specs.Sounds.{bytes_of_block, input_left, input_sound, samples_in, sounds_in}
+use Rattle.session_opening.specs.Sounds.{bytes_of_block, input_left, input_sound, samples_in, sounds_in}
 
 module _ {M I C W O : Type 0} where
   -- **Each master block.**

@@ -1,11 +1,10 @@
 //! The events that a run is given before its serial rest.
 ghost use Rattle.std.specs.Prelude.{◌≡◌, ◌≤◌, map, IfOk};
-ghost use Rattle.engine_core.specs.Events.{letter_of};
+ghost use Rattle.run_letters.specs.Events.{letter_of};
 ghost use Rattle.session_play.specs.Request.{letters_of};
 
 use crate::asked::Letters;
-use engine_core::Event;
-use run_letters::{seeded, stepped};
+use run_letters::{Event, seeded, stepped};
 use ses_io::NoMemory;
 use std::alloc::Global;
 

@@ -12,6 +12,6 @@ mod playing;
 mod reporting;
 
 pub use asked::{Letters, Request};
-pub use ending::{status_at_end, status_of};
+pub use ending::status_at_end;
 pub use outcome::{Outcome, unplayed};
 pub use playing::play;

@@ -6,12 +6,11 @@ ghost use Rattle.session_play.specs.Request.{request_view};
 ghost use Rattle.session_play.specs.Loading.{IsHeard, IsLoadedFor, IsRefused, IsUnheard, LoadCause, HearCause};
 
 use crate::asked::Request;
-use crate::ending::status_of;
 use cycle_journal::Status;
 use input_head::{NoInput, open_input};
 use ses_io::{Media, Source};
 use session_model::Session;
-use session_opening::{Loaded, has_takes, open};
+use session_opening::{Loaded, has_takes, open, status_of};
 use std::alloc::Global;
 use wav_codec::WavInfo;
 

@@ -8,7 +8,7 @@ use Rattle.cycle_journal.specs.declared.status.Status.TheVariants.{Done, Usage, 
 use Rattle.command_words.specs.Words.{Render}
 use Rattle.session_play.specs.declared.outcome.Outcome.{Outcome}
 use Rattle.session_run.specs.Carried.{CarriesOut}
-use Rattle.session_run.specs.Headline.{EndsAsAsked, LeavesTheMaster, PlaysAsAsked, RendersAsAsked}
+use Rattle.session_run.specs.Headline.{EndsAsAsked, LeavesTheMaster, OpensNoFile, PlaysAsAsked, RendersAsAsked}
 use Rattle.session_run.specs.Rendered.{GetsTheRender}
 use Rattle.session_run.specs.Replied.{IsOwnText, WritesItsOwn}
 use Rattle.session_run.specs.Status.{IsOfRender, IsStatusOf, ReadsFailed, WritesFailed}
@@ -58,11 +58,11 @@ module _ {M I C W O : Type 0} (outside : MediaOutside M) (inputs : SourceOutside
   no_rings None other journal rings acks = record { journal = journal; rings = rings; acks = acks }
 
   -- what reads the media and writes to out alone
-  pub of_unplayed : (asked : Option Task) → LeavesTheMaster asked → (media : M) (o : O) (s : Status) → EndsAsAsked outside inputs old asked s → IsStatusOf asked s → (s ≡ MasterFault → ⊥) →
+  pub of_unplayed : (asked : Option Task) → LeavesTheMaster asked → (media : M) → (OpensNoFile asked → media ≡ old.media) → (o : O) (s : Status) → EndsAsAsked outside inputs old asked s → IsStatusOf asked s → (s ≡ MasterFault → ⊥) →
       WritesItsOwn out (IsOwnText outside old.media asked) old.out o s → ReadsFailed (outside.read_faults old.media) (outside.read_faults media) s → WritesFailed OutFault (out.faults old.out) (out.faults o) s →
       OnlyReads outside old.media media → new.status ≡ s → new.world ≡ record old { media = media; out = o } → new.journal ≡ None → new.rings.items ≡ [] → new.acks ≡ None →
       CarriesOut outside inputs controls sink out old asked new
-  of_unplayed asked other media o s ends of not_master own reads writes only says world journal rings acks =
+  of_unplayed asked other media unread o s ends of not_master own reads writes only says world journal rings acks =
       let master_is : new.world.master ≡ old.master = ap (λ (w : World M I C W O). w.master) world in
       let media_is : new.world.media ≡ media = ap (λ (w : World M I C W O). w.media) world in
       let out_is : new.world.out ≡ o = ap (λ (w : World M I C W O). w.out) world in
@@ -80,11 +80,12 @@ module _ {M I C W O : Type 0} (outside : MediaOutside M) (inputs : SourceOutside
         input = ap (λ (w : World M I C W O). w.input) world;
         control = ap (λ (w : World M I C W O). w.control) world;
         unwritten = λ _. master_is;
+        unread = λ none. media_is ∙ unread none;
       }
 
   -- the words are no command
   pub no_command : new.status ≡ Usage → new.world ≡ old → new.journal ≡ None → new.rings.items ≡ [] → new.acks ≡ None → CarriesOut outside inputs controls sink out old None new
-  no_command says world = of_unplayed None tt old.media old.out Usage refl refl usage_master
+  no_command says world = of_unplayed None tt old.media (λ _. refl) old.out Usage refl refl usage_master
       (none_written out (IsOwnText outside old.media None) old.out old.out Usage usage_done usage_out refl)
       (status.quiet (outside.read_faults old.media) (outside.read_faults old.media) Usage refl usage_read)
       (kept OutFault (out.faults old.out) (out.faults old.out) Usage usage_out refl) (record { files = refl; other_count = refl }) says world
@@ -125,4 +126,5 @@ module _ {M I C W O : Type 0} (outside : MediaOutside M) (inputs : SourceOutside
         input = ap (λ (w : World M I C W O). w.input) world;
         control = ap (λ (w : World M I C W O). w.control) world;
         unwritten = λ other. absurd other;
+        unread = λ none. absurd none;
       }

@@ -17,11 +17,11 @@ use Rattle.master_render.specs.Written.{IsWritten, reading, writing}
 use Rattle.master_render.specs.declared.fault.RenderFault.{RenderFault}
 use Rattle.master_render.specs.declared.fault.RenderFault.TheVariants as fault
 use Rattle.session_opening.specs.declared.unopened.Unopened.TheVariants as unopened
-use Rattle.session_play.specs.Sounds.{sounds_in}
+use Rattle.session_opening.specs.Sounds.{sounds_in}
 use Rattle.session_run.specs.Rendered.{IsRendered}
 use Rattle.session_run.specs.Status.{IsOfRender, ReadsFailed, WritesFailed, status_after}
 use Rattle.session_run.proofs.DoesLemmas.{kept}
-use Rattle.session_play.proofs.SoundLemmas.{sounds_are}
+use Rattle.session_opening.proofs.SoundLemmas.{sounds_are}
 use Rattle.session_run.proofs.StatusLemmas as status
 
 -- ---- how a rendering ended

@@ -5,15 +5,15 @@ use Rattle.ses_io.specs.Faults.{risen}
 use Rattle.ses_io.specs.Outside.{MediaOutside, SourceOutside, SinkOutside, Writes}
 use Rattle.ses_io.specs.declared.errors.Failed.{Failed}
 use Rattle.ses_io.specs.declared.world.World.{World}
-use Rattle.cycle_journal.specs.declared.status.Status.TheVariants.{Done, MasterFault, OutFault}
+use Rattle.cycle_journal.specs.declared.status.Status.TheVariants.{Done, MasterFault, OutFault, ReadFault}
 use Rattle.fault_lines.specs.Fault.{fault_line, fault_words}
 use Rattle.session_opening.specs.Plan.{read_session, session_plan}
 use Rattle.session_play.specs.declared.outcome.Outcome.{Outcome}
 use Rattle.session_play.specs.Unplayed.{Gets, GetsAFront}
 use Rattle.session_run.specs.Carried.{CarriesOut}
-use Rattle.session_run.specs.Headline.{Does, EndsAsAsked, FaultsHaveCauses, HasCauses, IsComplete, LeavesAlone, LeavesTheRest, PlaysAsAsked, RendersAsAsked, RepliesAsAsked}
+use Rattle.session_run.specs.Headline.{Does, EndsAsAsked, FaultsHaveCauses, HasCauses, IsComplete, LeavesAlone, LeavesTheMaster, LeavesTheRest, PlaysAsAsked, RendersAsAsked, RepliesAsAsked}
 use Rattle.session_run.specs.Replied.{IsOwnText, Replies, WritesItsLine}
-use Rattle.session_run.specs.Status.{IsStatusOf, RepliesFailed}
+use Rattle.session_run.specs.Status.{IsBeforeInput, IsStatusOf, RepliesFailed}
 use Rattle.session_run.specs.Tasks.{Task, Runs, Migrates, Checks, Renders, Verifies, Gens}
 use Rattle.session_run.proofs.StatusLemmas as status
 
@@ -125,8 +125,20 @@ module _ {M I C W O : Type 0} (media : MediaOutside M) (inputs : SourceOutside I
       by (Some (Gens n)) is have = have
       by None is have = have
 
+    -- a render writes nothing where the session or a source is refused
+    unwritten : IsBeforeInput ended.status → ended.world.master ≡ old.master
+    unwritten before = by asked other d.played d.unwritten where
+      by : (q : Option Task) → IsOther q → PlaysAsAsked media inputs controls master out old q ended → (LeavesTheMaster q → ended.world.master ≡ old.master) → ended.world.master ≡ old.master
+      by (Some (Runs x)) is h left = absurd is
+      by (Some (Migrates name)) is h left = left tt
+      by (Some (Checks name)) is h left = left tt
+      by (Some (Renders x)) is h left = h.refused (status.before_isnt ended.status Done before (λ x. x)) (status.before_isnt ended.status MasterFault before (λ x. x)) (status.before_isnt ended.status ReadFault before (λ x. x))
+      by (Some (Verifies v)) is h left = left tt
+      by (Some (Gens n)) is h left = left tt
+      by None is h left = left tt
+
     rest : LeavesTheRest media old asked ended.status new.world
-    rest = by asked other (record { files = d.files; input = d.input; control = d.control; master = d.unwritten; out = λ some is. at_done is ∙ d.silent some }) where
+    rest = by asked other (record { files = d.files; input = d.input; control = d.control; master = d.unwritten; unwritten = unwritten; unread = d.unread; out = λ some is. at_done is ∙ d.silent some }) where
       by : (q : Option Task) → IsOther q → LeavesAlone media old q ended.status new.world → LeavesTheRest media old q ended.status new.world
       by (Some (Runs x)) is alone = absurd is
       by (Some (Migrates name)) is alone = alone

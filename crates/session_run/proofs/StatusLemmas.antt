@@ -12,10 +12,10 @@ use Rattle.session_opening.specs.Plan.{Open}
 use Rattle.session_opening.specs.declared.unopened.Unopened.{Unopened}
 use Rattle.session_opening.specs.declared.unopened.Unopened.TheVariants.{Session, Source, ReadFault}
 use Rattle.session_opening.specs.declared.unopened.Unopened.TheVariants as unopened
-use Rattle.session_play.specs.Ending.{IsUnread, status_of}
+use Rattle.session_opening.specs.Status.{IsUnread, status_of}
 use Rattle.session_play.specs.Reported.{IsStill}
 use Rattle.session_verify.specs.Verified.{IsOfVerify as IsVerdictStatus}
-use Rattle.session_run.specs.Status.{EndsWith, IsOfCheck, IsOfGen, IsOfMigrate, IsOfRender, IsOfRun, IsOfVerify, IsStatusOf, ReadsFailed}
+use Rattle.session_run.specs.Status.{EndsWith, IsBeforeInput, IsOfCheck, IsOfGen, IsOfMigrate, IsOfRender, IsOfRun, IsOfVerify, IsStatusOf, ReadsFailed}
 use Rattle.session_run.specs.Verified.{IsSaid}
 use Rattle.session_run.specs.Tasks.{Task, Runs, Migrates, Checks, Renders, Verifies, Gens}
 
@@ -74,6 +74,10 @@ reason_is_verdict (Session refusal) = refl
 reason_is_verdict (Source name why) = refl
 reason_is_verdict ReadFault = refl
 reason_is_verdict unopened.NoMemory = refl
+
+-- what comes before the input is read is no other status
+pub before_isnt : (s t : Status) → IsBeforeInput s → (IsBeforeInput t → ⊥) → s ≡ t → ⊥
+before_isnt s t before never same = never (subst IsBeforeInput same before)
 
 -- a run doesn't end as no command does
 pub run_not_usage : (s : Status) → IsOfRun s → s ≡ Usage → ⊥

@@ -10,7 +10,7 @@ use Rattle.cycle_journal.specs.declared.status.Status.TheVariants as status
 use Rattle.session_opening.specs.declared.unopened.Unopened.{Unopened}
 use Rattle.session_opening.specs.declared.unopened.Unopened.TheVariants as unopened
 use Rattle.session_opening.specs.Plan.{Open, session_plan}
-use Rattle.session_play.specs.Ending.{status_of}
+use Rattle.session_opening.specs.Status.{status_of}
 use Rattle.session_verify.specs.Verified.{Counts, IsAnswer, IsAnswerOn, IsOfVerify as IsVerdictStatus}
 use Rattle.session_verify.specs.Laws.{WhatAgreesIsAnswered}
 use Rattle.session_run.specs.Status.{IsOfVerify, ReadsFailed}

@@ -4,7 +4,7 @@ use Rattle.ses_io.specs.Outside.{MediaOutside, SourceOutside, SinkOutside, OnlyR
 use Rattle.ses_io.specs.declared.world.World.{World}
 use Rattle.cycle_journal.specs.declared.status.Status.TheVariants.{MasterFault, OutFault}
 use Rattle.session_play.specs.declared.outcome.Outcome.{Outcome}
-use Rattle.session_run.specs.Headline.{EndsAsAsked, LeavesTheMaster, PlaysAsAsked, RendersAsAsked}
+use Rattle.session_run.specs.Headline.{EndsAsAsked, LeavesTheMaster, OpensNoFile, PlaysAsAsked, RendersAsAsked}
 use Rattle.session_run.specs.Replied.{IsOwnText, WritesItsOwn}
 use Rattle.session_run.specs.Status.{IsStatusOf, ReadsFailed, WritesFailed}
 use Rattle.session_run.specs.Tasks.{Task}
@@ -31,3 +31,4 @@ module _ {M I C W O : Type 0} where
     pub input : new.world.input ≡ old.input
     pub control : new.world.control ≡ old.control
     pub unwritten : LeavesTheMaster asked → new.world.master ≡ old.master
+    pub unread : OpensNoFile asked → new.world.media ≡ old.media

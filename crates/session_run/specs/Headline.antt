@@ -15,7 +15,7 @@ use Rattle.session_verify.specs.Laws.{Agrees}
 use Rattle.session_run.specs.Rendered.{GetsTheRender}
 use Rattle.session_run.specs.Replied.{IsOwnText, Replies}
 use Rattle.session_run.specs.Verified.{EndsAsVerified}
-use Rattle.session_run.specs.Status.{EndsWith, HasNotPlayed, HasRendered, IsStatusOf, ReadsFailed, WritesFailed, RepliesFailed}
+use Rattle.session_run.specs.Status.{EndsWith, HasNotPlayed, HasRendered, IsBeforeInput, IsStatusOf, ReadsFailed, WritesFailed, RepliesFailed}
 use Rattle.session_run.specs.Tasks.{Task, Runs, Migrates, Checks, Renders, Verifies, Gens}
 
 -- what was asked for leaves the master alone
@@ -27,6 +27,16 @@ LeavesTheMaster (Some (Renders r)) = ⊥
 LeavesTheMaster (Some (Verifies v)) = Unit {0}
 LeavesTheMaster (Some (Gens n)) = Unit {0}
 LeavesTheMaster None = Unit {0}
+
+-- what was asked for opens no file
+abbrev pub OpensNoFile : Option Task → Type 0
+OpensNoFile (Some (Runs r)) = ⊥
+OpensNoFile (Some (Migrates name)) = ⊥
+OpensNoFile (Some (Checks name)) = ⊥
+OpensNoFile (Some (Renders r)) = ⊥
+OpensNoFile (Some (Verifies v)) = ⊥
+OpensNoFile (Some (Gens n)) = Unit {0}
+OpensNoFile None = Unit {0}
 
 module _ {M I C W O : Type 0} where
   -- ---- statuses
@@ -121,14 +131,26 @@ module _ {M I C W O : Type 0} where
     pub files : OnlyReads media old.media new.media
     pub input : new.input ≡ old.input
     pub control : new.control ≡ old.control
-    -- only a render writes to the master
+    -- only a render writes to the master, and none where the session or a source is refused
     pub master : LeavesTheMaster asked → new.master ≡ old.master
+    pub unwritten : IsBeforeInput s → new.master ≡ old.master
+    -- what opens no file reads none
+    pub unread : OpensNoFile asked → new.media ≡ old.media
     -- and nothing to out where it is Done
     pub out : ¬ (LeavesTheMaster asked) → s ≡ Done → new.out ≡ old.out
 
-  -- what a run leaves alone is said with what is played
+  -- **What a run leaves alone where the session, a source or takes are in the way**; else it is said with what is played.
+  pub record LeavesUntouched (media : MediaOutside M) (old : World M I C W O) (s : Status) (new : World M I C W O) : Type 0 where
+    -- files were read, and none has changed
+    pub files : IsBeforeInput s → OnlyReads media old.media new.media
+    -- nothing else was read, and the master wasn't written to
+    pub input : IsBeforeInput s → new.input ≡ old.input
+    pub control : IsBeforeInput s → new.control ≡ old.control
+    pub master : IsBeforeInput s → new.master ≡ old.master
+
+  -- what is left alone of the world
   abbrev pub LeavesTheRest : MediaOutside M → World M I C W O → Option Task → Status → World M I C W O → Type 0
-  LeavesTheRest media old (Some (Runs r)) s new = Unit {0}
+  LeavesTheRest media old (Some (Runs r)) s new = LeavesUntouched media old s new
   LeavesTheRest media old (Some (Migrates name)) s new = LeavesAlone media old (Some (Migrates name)) s new
   LeavesTheRest media old (Some (Checks name)) s new = LeavesAlone media old (Some (Checks name)) s new
   LeavesTheRest media old (Some (Renders r)) s new = LeavesAlone media old (Some (Renders r)) s new

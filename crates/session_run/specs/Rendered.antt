@@ -9,7 +9,7 @@ use Rattle.cycle_journal.specs.declared.status.Status.TheVariants.{Done}
 use Rattle.master_render.specs.Offline.{offline_file}
 use Rattle.session_opening.specs.Plan.{Open, session_plan}
 use Rattle.command_words.specs.Words.{Render}
-use Rattle.session_play.specs.Sounds.{sounds_in}
+use Rattle.session_opening.specs.Sounds.{sounds_in}
 
 -- **the master of a render**: so many frames of the session, from a position on, as it was read
 abbrev pub rendered : Files → Session → Render → List ℕ

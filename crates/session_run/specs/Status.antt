@@ -4,6 +4,7 @@ use Rattle.ses_io.specs.Faults.{risen}
 use Rattle.ses_io.specs.declared.world.World.{World}
 use Rattle.cycle_journal.specs.declared.status.Status.{Status}
 use Rattle.cycle_journal.specs.declared.status.Status.TheVariants.{Done, Usage, ReadFault, MasterFault, OutFault, NoMemory, Refuted, BadReport}
+use Rattle.cycle_journal.specs.declared.status.Status.TheVariants as status
 use Rattle.master_render.specs.declared.fault.RenderFault.{RenderFault}
 use Rattle.master_render.specs.declared.fault.RenderFault.TheVariants as fault
 use Rattle.session_opening.specs.declared.no_session.NoSession.{NoSession}
@@ -11,7 +12,7 @@ use Rattle.session_opening.specs.declared.unopened.Unopened.{Unopened}
 use Rattle.session_opening.specs.Answers as answers
 use Rattle.session_opening.specs.Plan.{Open}
 use Rattle.session_play.specs.declared.outcome.Outcome.{Outcome}
-use Rattle.session_play.specs.Ending.{Says, status_of}
+use Rattle.session_opening.specs.Status.{Says, status_of}
 use Rattle.session_verify.specs.Verified as verdict
 use Rattle.session_run.specs.Tasks.{Task, Runs, Migrates, Checks, Renders, Verifies, Gens}
 
@@ -22,6 +23,13 @@ use Rattle.session_run.specs.Tasks.{Task, Runs, Migrates, Checks, Renders, Verif
 abbrev pub EndsWith : {A : Type 0} → Status → Open A → Status → Type 0
 EndsWith fault (Ok o) s = (s ≡ Done) ⊎ ((s ≡ fault) ⊎ ((s ≡ ReadFault) ⊎ (s ≡ NoMemory)))
 EndsWith fault (Err wrong) s = Says wrong s ⊎ ((s ≡ ReadFault) ⊎ (s ≡ NoMemory))
+
+-- the session, a source of it or takes that are there are in the way: no more than files was read then
+abbrev pub IsBeforeInput : Status → Type 0
+IsBeforeInput (status.Session why) = Unit {0}
+IsBeforeInput (status.SourceFile name why) = Unit {0}
+IsBeforeInput (status.TakesExist name) = Unit {0}
+IsBeforeInput _ = ⊥
 
 -- ---- by what failed
 

@@ -5,7 +5,7 @@ use Rattle.ses_io.specs.Outside.{MediaOutside}
 use Rattle.command_words.specs.Words.{Verify}
 use Rattle.cycle_journal.specs.declared.status.Status.{Status}
 use Rattle.cycle_journal.specs.declared.status.Status.TheVariants.{Done, OutFault}
-use Rattle.session_play.specs.Ending.{IsUnread}
+use Rattle.session_opening.specs.Status.{IsUnread}
 use Rattle.session_verify.specs.Verified.{IsAnswer}
 use Rattle.session_verify.specs.Laws.{Agrees}
 

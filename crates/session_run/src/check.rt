@@ -13,8 +13,8 @@ use crate::writing::write_text;
 use cycle_journal::Status;
 use ses_io::{Media, Sink, Source, World};
 use session_model::{Route, RouteKind, Session};
-use session_opening::{Opened, open_session};
-use session_play::{Outcome, status_of, unplayed};
+use session_opening::{Opened, open_session, status_of};
+use session_play::{Outcome, unplayed};
 use std::alloc::{AllocError, Global};
 
 // How many busses there are among the routes.

@@ -1,4 +1,4 @@
-//! The top call: `run` does all that the program does, over a world of its caller's.
+//! The top calls: `run` does all that the program does, over a world of its caller's, and `run_alone` does it without a runtime.
 #![tactic(auto)]
 
 mod answer;
@@ -14,4 +14,4 @@ mod writing;
 pub use audio_source::FileRefusal;
 pub use cycle_journal::{InputRefusal, Status};
 pub use session_play::Outcome;
-pub use top::run;
+pub use top::{run, run_alone};

@@ -11,8 +11,8 @@ ghost use Rattle.session_run.specs.Carried.{CarriesOut};
 use crate::writing::write_text;
 use cycle_journal::Status;
 use ses_io::{Media, Sink, Source, World};
-use session_opening::{Unopened, read_session};
-use session_play::{Outcome, status_of, unplayed};
+use session_opening::{Unopened, read_session, status_of};
+use session_play::{Outcome, unplayed};
 use session_text::text_of_session;
 use std::alloc::Global;
 

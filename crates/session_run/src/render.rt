@@ -16,8 +16,8 @@ use cycle_journal::Status;
 use master_render::{RenderFault, render_master};
 use ses_io::{Media, Sink, Source, World};
 use session_model::Session;
-use session_opening::{Opened, open_session};
-use session_play::{Outcome, status_of, unplayed};
+use session_opening::{Opened, open_session, status_of};
+use session_play::{Outcome, unplayed};
 use std::alloc::Global;
 
 // The status of a rendering that ended so.

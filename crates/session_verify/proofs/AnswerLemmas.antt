@@ -19,9 +19,9 @@ use Rattle.session_opening.specs.declared.unopened.Unopened.{Unopened}
 use Rattle.session_opening.specs.declared.unopened.Unopened.TheVariants as unopened
 use Rattle.session_opening.specs.Laws.{OpenIsValid}
 use Rattle.session_opening.specs.Plan.{Open, session_plan}
-use Rattle.session_play.specs.Ending.{IsUnread, status_of}
-use Rattle.session_play.specs.Sounds.{sounds_in}
-use Rattle.session_play.proofs.SoundLemmas.{sounds_are}
+use Rattle.session_opening.specs.Status.{IsUnread, status_of}
+use Rattle.session_opening.specs.Sounds.{sounds_in}
+use Rattle.session_opening.proofs.SoundLemmas.{sounds_are}
 use Rattle.report_check.specs.declared.unverified.Unverified.{Unverified}
 use Rattle.report_check.specs.declared.unverified.Unverified.TheVariants.{BadReport, Refuted, Unread}
 use Rattle.report_check.specs.Laws.{AllAgree, IsVerifiedOrUnread, WhatAgreesIsVerified}

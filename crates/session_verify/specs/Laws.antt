@@ -5,8 +5,8 @@ use Rattle.session_model.specs.declared.session.Session.{Session}
 use Rattle.command_words.specs.Words.{Verify}
 use Rattle.cycle_journal.specs.declared.status.Status.{Status}
 use Rattle.session_opening.specs.Plan.{Open, session_plan}
-use Rattle.session_play.specs.Ending.{IsUnread}
-use Rattle.session_play.specs.Sounds.{sounds_in}
+use Rattle.session_opening.specs.Status.{IsUnread}
+use Rattle.session_opening.specs.Sounds.{sounds_in}
 use Rattle.report_check.specs.Laws.{AllAgree}
 use Rattle.session_verify.specs.Verified.{IsAnswer}
 

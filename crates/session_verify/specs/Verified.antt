@@ -9,8 +9,8 @@ use Rattle.cycle_journal.specs.declared.status.Status.{Status}
 use Rattle.cycle_journal.specs.declared.status.Status.TheVariants as status
 use Rattle.session_opening.specs.declared.unopened.Unopened.{Unopened}
 use Rattle.session_opening.specs.Plan.{Open, Wrong, session_plan}
-use Rattle.session_play.specs.Ending.{IsUnread, Says, status_of}
-use Rattle.session_play.specs.Sounds.{sounds_in}
+use Rattle.session_opening.specs.Status.{IsUnread, Says, status_of}
+use Rattle.session_opening.specs.Sounds.{sounds_in}
 use Rattle.report_verdict.specs.Lines.{lines_stand, refuted_at}
 use Rattle.report_check.specs.Laws.{AllAgree}
 use Rattle.report_check.specs.Verdict.{Found, IsBadAt}

@@ -16,8 +16,7 @@ use heard_blocks::HeardFault;
 use report_check::{Unverified, check, verified_where_all_agree};
 use ses_io::Media;
 use session_model::Session;
-use session_opening::{Opened, open_session};
-use session_play::status_of;
+use session_opening::{Opened, open_session, status_of};
 use std::alloc::Global;
 
 // The same of a session that was opened.

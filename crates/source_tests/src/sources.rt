@@ -8,7 +8,8 @@ mod held;
 mod refused;
 
 use audio_source::{OpenRefusal, ReadFault, Sources};
-use ses_io::{FolderMedia, Media, MemMedia};
+use ses_files::{FilesRead, FolderMedia};
+use ses_io::{Media, MemMedia, NoMemory};
 use ses_units::Name;
 use session_model::{FileName, SourceDecl, SourceList};
 use std::alloc::Global;
@@ -122,12 +123,18 @@ fn is_heard_in_folder(alloc: Global, media: &mut FolderMedia<HostRuntime>) -> bo
     }
 }
 
+fn folder_media(rt: HostRuntime, path: &str) -> Result<FolderMedia<HostRuntime>, NoMemory> {
+    let alloc = rt.alloc();
+    let folder = String::from_str(alloc, path)?;
+    Ok(FolderMedia::new(rt, folder, FilesRead::new(alloc)?))
+}
+
 // The same of a folder that is made for it, and taken away.
 fn is_heard_in(rt: HostRuntime, path: &str) -> bool {
     let made = fs::create_dir(&rt, path).is_ok();
-    let heard = match String::from_str(rt.alloc(), path) {
-        Ok(folder) => is_heard_in_folder(rt.alloc(), &mut FolderMedia::new(rt, folder)),
-        Err(_) => false,
+    let heard = match folder_media(rt, path) {
+        Ok(mut media) => is_heard_in_folder(rt.alloc(), &mut media),
+        Err(NoMemory) => false,
     };
     let gone = fs::remove_dir_all(&rt, path).is_ok();
     made && heard && gone

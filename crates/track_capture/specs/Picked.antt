@@ -5,9 +5,13 @@ use Rattle.session_model.specs.Formed.{channels_at}
 use Rattle.session_model.specs.Frames.{interleaved}
 use Rattle.engine_model.specs.Takes.{Input, first_channel, input_block}
 
+-- the sample at a place, which is of channel c of a block of so many channels, silence where there is no such channel
+abbrev pub sample_placed : ℕ → List ℤ → ℕ → ℕ → ℤ
+sample_placed channels samples place c = if nat_lt c channels then slice_index_or samples place (pos 0) else pos 0
+
 -- the sample of frame i and channel c of a block of so many channels, silence where there is none
 abbrev pub sample_of : ℕ → List ℤ → ℕ → ℕ → ℤ
-sample_of channels samples i c = if nat_lt c channels then slice_index_or samples (i * channels + c) (pos 0) else pos 0
+sample_of channels samples i c = sample_placed channels samples (i * channels + c) c
 
 -- the channels that track t records, frame by frame
 abbrev pub picked : Session → ℕ → ℕ → List ℤ → List ℤ

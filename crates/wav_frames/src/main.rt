@@ -3,7 +3,8 @@
 #![tactic(auto)]
 
 use audio_source::Sources;
-use ses_io::{Failed, FolderMedia, WriteSink, write_all};
+use ses_files::{FilesRead, FolderMedia, WriteSink};
+use ses_io::{Failed, write_all};
 use ses_units::{Bits, Name};
 use session_model::{FileName, SourceDecl, SourceList};
 use std::alloc::Global;
@@ -90,7 +91,10 @@ fn main(rt: HostRuntime) -> io::Result<ExitCode> {
     for word in all.iter() {
         words.push(word.as_str())?;
     }
-    let mut media = FolderMedia::new(rt, String::new(alloc));
+    let Ok(read) = FilesRead::new(alloc) else {
+        return Ok(ExitCode::FAILURE);
+    };
+    let mut media = FolderMedia::new(rt, String::new(alloc), read);
     let mut out = WriteSink::new(rt.stdout());
     let written = match read_words(words.as_slice()) {
         Some(asked) => match open(alloc, &mut media, &asked) {

@@ -12,11 +12,11 @@ use Rattle.piece_item.specs.declared.take_block.TakeBlock.{TakeBlock}
 use Rattle.read_ahead.specs.Items.{kinds}
 use Rattle.process_cycle.specs.Ends.{AreNew, IsNewIn, IsNewOut, block_of}
 use Rattle.run_rings.specs.declared.run_ends.RunEnds.{RunEnds}
+use Rattle.run_rings.specs.Laws.{AreNewForButler}
 use Rattle.run_rings.specs.Rings.{AreNewRunEnds, EachHasARing, IsRing}
-use Rattle.run_rings.proofs.LawLemmas.{each_in, each_out, new_fit, new_out}
+use Rattle.run_rings.proofs.LawLemmas.{in_there, new_fit, out_there}
 use Rattle.worker_pair.specs.Met.{AllKnow, HaveMet, KnowEachOther}
 use Rattle.worker_pair.specs.Never.{NothingIsTaken}
-use Rattle.worker_pair.specs.Starts.{AreNewForButler}
 use Rattle.worker_pair.specs.Tied.{captured_of, IsTrackOf}
 
 -- the two ends of a new ring know all of each other
@@ -47,31 +47,26 @@ module _ (s : Session) (w : RunEnds) (new : AreNewRunEnds s w) where
 
   -- of a track: the butler's end that puts,
   send_first : (t : ℕ) (d : Sender Item) → slice_get w.butler.sends.items t ≡ Some d → IsNewIn s.depth (block_of s t) d
-  send_first t d here = subst (IsNewIn s.depth (block_of s t)) (get_or_from_slice_get w.butler.sends.items t d d here)
-      (each_in s many w.butler.sends.items w.process.plays.items new.items d t d (omega (arith, slice_get_within w.butler.sends.items t d here, new.items.0)))
+  send_first = (new_fit s w new).serving.each
 
   -- the process's that takes,
   play_first : (t : ℕ) (r : Receiver Item) → slice_get w.process.plays.items t ≡ Some r → IsNewOut s.depth (block_of s t) r
-  play_first t r here = subst (IsNewOut s.depth (block_of s t)) (get_or_from_slice_get w.process.plays.items t r r here)
-      (each_out s many w.butler.sends.items w.process.plays.items new.items w.process.to_butler t r (omega (arith, slice_get_within w.process.plays.items t r here, new.items.1)))
+  play_first = out_there s many w.butler.sends.items w.process.plays.items new.items w.process.to_butler
 
   -- the one that puts the blocks of its takes,
   take_first : (t : ℕ) (k : Sender TakeBlock) → slice_get w.process.takes.items t ≡ Some k → IsNewIn s.depth (block_of s t) k
-  take_first t k here = subst (IsNewIn s.depth (block_of s t)) (get_or_from_slice_get w.process.takes.items t k k here)
-      (each_in s many w.process.takes.items w.butler.takes.items new.takes k t k (omega (arith, slice_get_within w.process.takes.items t k here, new.takes.0)))
+  take_first = in_there s many w.process.takes.items w.butler.takes.items new.takes
 
   -- and the butler's that takes them
   flush_first : (t : ℕ) (f : Receiver TakeBlock) → slice_get w.butler.takes.items t ≡ Some f → IsNewOut s.depth (block_of s t) f
-  flush_first t f here = subst (IsNewOut s.depth (block_of s t)) (get_or_from_slice_get w.butler.takes.items t f f here)
-      (each_out s many w.process.takes.items w.butler.takes.items new.takes w.process.to_butler t f (omega (arith, slice_get_within w.butler.takes.items t f here, new.takes.1)))
+  flush_first = (new_fit s w new).serving.each_capture
 
-  -- the butler's end of the acknowledgements
+  -- its end of the acknowledgements, and control's
   pub acks_first : IsNewOut s.depth 0 w.butler.acks
-  acks_first = new_out s.depth 0 w.process.to_butler w.butler.acks new.to_butler
+  acks_first = (new_fit s w new).serving.acks
 
-  -- and control's
   pub control_first : IsNewOut s.depth 0 w.acks
-  control_first = new_out s.depth 0 w.process.to_control w.acks new.to_control
+  control_first = (new_fit s w new).hearing
 
   -- nothing was captured
   pub no_take_first : NothingIsTaken w.process.takes.items
@@ -83,15 +78,7 @@ module _ (s : Session) (w : RunEnds) (new : AreNewRunEnds s w) where
 
   -- and the butler
   pub new_for_butler : AreNewForButler s w.butler
-  new_for_butler = record {
-    tracks = new.items.0;
-    each = λ t d here. let is = send_first t d here in record { deep = is.depth; wide = is.room; nothing_sent = is.sent; not_closed = is.closed };
-    captures = new.takes.1;
-    each_capture = λ t r here. let is = flush_first t r here in record { wide = is.room; none_received = is.received; not_ended = is.ended };
-    acks_room = acks_first.room;
-    none_received = acks_first.received;
-    not_ended = acks_first.ended;
-  }
+  new_for_butler = (new_fit s w new).serving
 
   -- each track is as the machine has it at first
   pub tracks_first : (t : ℕ) (d : Sender Item) (r : Receiver Item) (k : Sender TakeBlock) (f : Receiver TakeBlock) → slice_get w.butler.sends.items t ≡ Some d →

@@ -35,6 +35,7 @@ use Rattle.process_cycle.specs.Ends.{AreOtherEnds}
 use Rattle.process_cycle.specs.Playing.{HasBegun as PlayingBegun}
 use Rattle.process_cycle.specs.ProcessState.{ProcessState as Process}
 use Rattle.run_rings.specs.declared.run_ends.RunEnds.{RunEnds}
+use Rattle.run_rings.specs.Laws.{AreNewForButler}
 use Rattle.run_rings.specs.Rings.{AreNewRunEnds}
 use Rattle.run_rings.proofs.LawLemmas.{new_fit}
 use Rattle.worker_pair.specs.declared.beginning.Start.{Start}
@@ -43,7 +44,7 @@ use Rattle.worker_pair.specs.Begun.{Begun, At, at_first, begun_with}
 use Rattle.worker_pair.specs.Met.{HaveMet}
 use Rattle.worker_pair.specs.Never.{NeverRecords, NothingIsTaken}
 use Rattle.worker_pair.specs.Runs.{Runs, Serves}
-use Rattle.worker_pair.specs.Starts.{AreNewForButler, HaveBegun, HaveWorkers, IsBegunBy, MayBegin}
+use Rattle.worker_pair.specs.Starts.{HaveBegun, HaveWorkers, IsBegunBy, MayBegin}
 use Rattle.worker_pair.specs.Takes.{FilesStand, MayRecord, run_of}
 use Rattle.worker_pair.specs.Tied.{AreRingsOf, IsTrackOf, rings_of}
 use Rattle.worker_pair.proofs.NeverLemmas.{never_first}
@@ -68,12 +69,12 @@ module _ {V I W : Type 0} (s : Session) (start : Start V I W) (may : MayBegin s 
     some_cycle = may.some_cycle;
     near = may.near;
     tracks = new.tracks;
-    each = new.each;
+    each = λ t d here. let is = new.each t d here in record { deep = is.depth; wide = is.room; nothing_sent = is.sent; not_closed = is.closed };
     captures = new.captures;
-    each_capture = new.each_capture;
-    acks_room = new.acks_room;
-    none_received = new.none_received;
-    not_ended = new.not_ended;
+    each_capture = λ t r here. let is = new.each_capture t r here in record { wide = is.room; none_received = is.received; not_ended = is.ended };
+    acks_room = new.acks.room;
+    none_received = new.acks.received;
+    not_ended = new.acks.ended;
   }
 
   -- new workers with such ends

@@ -1,4 +1,4 @@
--- Editions that never record. The engine plays these so far.
+-- Editions that never record: all that a run plays in which nothing is to be recorded.
 use Rattle.std.specs.Prelude.{◌≡◌, ℕ, Bool, false, List, [], slice_get, Some}
 use Rattle.session_model.specs.declared.session.Session.{Session}
 use Rattle.session_model.specs.declared.edit.Edit.{Edit}

@@ -1,24 +1,19 @@
 -- What the workers may begin with, and what they have then.
-use Rattle.std.specs.Prelude.{◌≡◌, ℕ, ◌*◌, ◌≤◌, true, false, [], IfSome, length, slice_get, Some, ◌++◌, codes}
+use Rattle.std.specs.Prelude.{◌≡◌, ◌≤◌, true, false, [], IfSome, ◌++◌, codes}
 use Rattle.ses_io.specs.Files.{Files, HasNameUnder}
 use Rattle.ses_io.specs.Outside.{MediaOutside, SourceOutside, SinkOutside}
 use Rattle.wav_codec.specs.Info.{IsFound}
 use Rattle.session_model.specs.declared.session.Session.{Session}
-use Rattle.session_model.specs.Formed.{channels_at}
 use Rattle.session_model.specs.Valid.{IsValid}
 use Rattle.edition_log.specs.EditionState.{EditionState as Edition, IsEditionOf}
 use Rattle.audio_source.specs.Opened.{IsListed}
 use Rattle.input_blocks.specs.Rest.{stream_told}
 use Rattle.machine_model.specs.Core as machine
-use Rattle.disk_ring.specs.Sender.{Sender}
-use Rattle.disk_ring.specs.Receiver.{Receiver}
-use Rattle.piece_item.specs.declared.item.Item.{Item}
-use Rattle.piece_item.specs.declared.take_block.TakeBlock.{TakeBlock}
 use Rattle.piece_item.specs.declared.butler_ends.ButlerEnds.{ButlerEnds}
 use Rattle.capture_flush.specs.Flushed.{IsFlushed}
 use Rattle.capture_drain.specs.Files.{tape_of}
 use Rattle.butler.specs.ButlerState.{ButlerState as Butler}
-use Rattle.butler.specs.Begins.{IsGiven, IsNewSender, IsNewReceiver}
+use Rattle.butler.specs.Begins.{IsGiven}
 use Rattle.butler.specs.Serving.{IsServing, IsTrueTo}
 use Rattle.process_cycle.specs.declared.ends.ProcessEnds.{ProcessEnds}
 use Rattle.process_cycle.specs.ProcessState.{ProcessState as Process}
@@ -52,16 +47,6 @@ module _ {V I W : Type 0} where
   pub record IsBegunBy (media : MediaOutside V) (inputs : SourceOutside I) (sinks : SinkOutside W) (begun : Begun) (start : Start V I W) : Type 0 where
     pub told : begun ≡ begun_with media inputs sinks begun.session begun.records start.media start.input start.master
     pub may_record : begun.records ≡ true → media.tells → MayRecord begun.session begun.files start.sources.opened
-
--- the butler's ends of new rings, two for each track
-pub record AreNewForButler (s : Session) (ends : ButlerEnds) : Type 0 where
-  pub tracks : length ends.sends.items ≡ length s.tracks.items
-  pub each : (t : ℕ) (d : Sender Item) → slice_get ends.sends.items t ≡ Some d → IsNewSender s.depth (s.block * channels_at s t) d
-  pub captures : length ends.takes.items ≡ length s.tracks.items
-  pub each_capture : (t : ℕ) (r : Receiver TakeBlock) → slice_get ends.takes.items t ≡ Some r → IsNewReceiver (s.block * channels_at s t) r
-  pub acks_room : ends.acks.room ≡ 0
-  pub none_received : ends.acks.received ≡ []
-  pub not_ended : ends.acks.ended ≡ false
 
 -- A process and a butler that did nothing yet.
 pub record HaveWorkers {V I W : Type 0} (media : MediaOutside V) (inputs : SourceOutside I) (sinks : SinkOutside W) (s : Session) (start : Start V I W) (ours : ProcessEnds) (theirs : ButlerEnds)

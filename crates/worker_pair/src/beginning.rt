@@ -2,7 +2,8 @@
 ghost use Rattle.std.specs.Prelude.{◌≡◌, IfOk, IfErr};
 ghost use Rattle.session_model.specs.declared.session.Session.{Session as Opening};
 ghost use Rattle.process_cycle.specs.Ends.{AreNew};
-ghost use Rattle.worker_pair.specs.Starts.{AreNewForButler, HaveWorkers, MayBegin, given_of};
+ghost use Rattle.run_rings.specs.Laws.{AreNewForButler};
+ghost use Rattle.worker_pair.specs.Starts.{HaveWorkers, MayBegin, given_of};
 
 use audio_source::Sources;
 use butler::Butler;
@@ -31,7 +32,7 @@ pub struct Start<M, I, W> {
 
 /// New workers with these ends of new rings. Err is want of memory, and gives media, input and
 /// master back.
-pub(crate) fn new_workers<M: Media, I: Source, W: Sink>(
+pub fn new_workers<M: Media, I: Source, W: Sink>(
     alloc: Global,
     start: Start<M, I, W>,
     ours: ProcessEnds,

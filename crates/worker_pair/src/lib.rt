@@ -10,6 +10,6 @@ mod pair;
 mod playing;
 mod turning;
 
-pub use beginning::Start;
+pub use beginning::{Start, new_workers};
 pub use ending::{Ending, Stopped};
 pub use pair::Pair;

@@ -1,7 +1,6 @@
 //! Real files, and readers and writers of std, as sources and sinks.
-use ses_io::{
-    Failed, FileSink, FileSource, ReadSource, Sink, Source, WriteSink, read_full, write_all,
-};
+use ses_files::{FileSink, FileSource, FilesRead, ReadSource, WriteSink};
+use ses_io::{Failed, NoMemory, Sink, Source, read_full, write_all};
 use std::io;
 use std::io::{Error, ErrorKind, Read, Write};
 
@@ -15,11 +14,23 @@ fn is_put(sink: &mut FileSink<HostRuntime>, bytes: &[u8]) -> bool {
     true
 }
 
+fn sink(rt: HostRuntime, path: &str) -> Result<FileSink<HostRuntime>, NoMemory> {
+    let alloc = rt.alloc();
+    let path = String::from_str(alloc, path)?;
+    Ok(FileSink::new(rt, path, FilesRead::new(alloc)?))
+}
+
+fn source(rt: HostRuntime, path: &str) -> Result<FileSource<HostRuntime>, NoMemory> {
+    let alloc = rt.alloc();
+    let path = String::from_str(alloc, path)?;
+    Ok(FileSource::new(rt, path, FilesRead::new(alloc)?))
+}
+
 // Whether the text is written to the file.
 fn is_written(rt: HostRuntime, path: &str, bytes: &[u8]) -> bool {
-    match String::from_str(rt.alloc(), path) {
-        Ok(path) => is_put(&mut FileSink::new(rt, path), bytes),
-        Err(_) => false,
+    match sink(rt, path) {
+        Ok(mut sink) => is_put(&mut sink, bytes),
+        Err(NoMemory) => false,
     }
 }
 
@@ -32,9 +43,9 @@ fn first_eight(source: &mut FileSource<HostRuntime>) -> Result<(usize, [u8; 8]),
 
 // Whether this is read of the file.
 fn holds(rt: HostRuntime, path: &str, held: Result<(usize, [u8; 8]), Failed>) -> bool {
-    match String::from_str(rt.alloc(), path) {
-        Ok(path) => first_eight(&mut FileSource::new(rt, path)) == held,
-        Err(_) => false,
+    match source(rt, path) {
+        Ok(mut source) => first_eight(&mut source) == held,
+        Err(NoMemory) => false,
     }
 }
 

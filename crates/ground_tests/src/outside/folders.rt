@@ -1,7 +1,8 @@
 //! A real folder as a media, and its files as sources and sinks.
 use super::files::are_made;
 use super::{Call, does_all};
-use ses_io::{Failed, FolderMedia, Media};
+use ses_files::{FilesRead, FolderMedia};
+use ses_io::{Failed, Media, NoMemory};
 use std::{env, fs, process};
 
 const BEFORE: &[Call] = &[
@@ -49,19 +50,21 @@ const WRITES: &[(&str, u64, &[u8], Result<usize, Failed>)] = &[
     ("a.wav/b.wav", 0, b"a", Err(Failed)),
 ];
 
-/// After another program took the file away: each that was open is a fault once, and then the file is absent.
+/// After another program took the file away: a read is a fault once, and then the file is absent; it isn't made again.
 const TAKEN_AWAY: &[Call] = &[
     Call::Read("a.wav", 0, 4, Err(Failed)),
     Call::Read("a.wav", 0, 4, Ok((0, *b"...."))),
     Call::Append("a.wav", b"new", Err(Failed)),
-    Call::Append("a.wav", b"new", Ok(3)),
-    Call::Read("a.wav", 0, 4, Ok((3, *b"new."))),
+    Call::Append("a.wav", b"new", Err(Failed)),
+    Call::Size("a.wav", Ok(None)),
+    Call::Append("c.wav", b"new", Ok(3)),
+    Call::Read("c.wav", 0, 4, Ok((3, *b"new."))),
 ];
 
 /// After another file was put in its place.
 const REPLACED: &[Call] = &[
-    Call::Read("a.wav", 0, 4, Err(Failed)),
-    Call::Read("a.wav", 0, 4, Ok((1, *b"a..."))),
+    Call::Read("c.wav", 0, 4, Err(Failed)),
+    Call::Read("c.wav", 0, 4, Ok((1, *b"a..."))),
 ];
 
 // Whether files that other programs take away or replace are missed.
@@ -69,12 +72,15 @@ fn are_missed(rt: HostRuntime, path: &str, media: &mut FolderMedia<HostRuntime>)
     let Ok(file) = format!(in rt.alloc(); "{path}/a.wav") else {
         return false;
     };
+    let Ok(later) = format!(in rt.alloc(); "{path}/c.wav") else {
+        return false;
+    };
     let Ok(other) = format!(in rt.alloc(); "{path}/take-t-1.wav") else {
         return false;
     };
     fs::remove_file(&rt, file.as_str()).is_ok()
         && does_all(media, TAKEN_AWAY)
-        && fs::rename(&rt, other.as_str(), file.as_str()).is_ok()
+        && fs::rename(&rt, other.as_str(), later.as_str()).is_ok()
         && does_all(media, REPLACED)
 }
 
@@ -120,10 +126,16 @@ fn serves(rt: HostRuntime, path: &str, media: &mut FolderMedia<HostRuntime>) -> 
     made && right && gone && does_all(media, &[Call::Any("", Err(Failed))])
 }
 
+fn media(rt: HostRuntime, path: &str) -> Result<FolderMedia<HostRuntime>, NoMemory> {
+    let alloc = rt.alloc();
+    let folder = String::from_str(alloc, path)?;
+    Ok(FolderMedia::new(rt, folder, FilesRead::new(alloc)?))
+}
+
 fn fresh_serves(rt: HostRuntime, path: &str) -> bool {
-    match String::from_str(rt.alloc(), path) {
-        Ok(folder) => serves(rt, path, &mut FolderMedia::new(rt, folder)),
-        Err(_) => false,
+    match media(rt, path) {
+        Ok(mut media) => serves(rt, path, &mut media),
+        Err(NoMemory) => false,
     }
 }
 

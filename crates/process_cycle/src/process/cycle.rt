@@ -47,8 +47,8 @@ impl<I: Source, W: Sink> Process<I, W> {
     /// One cycle in the edition of the last look: a block of the input is read, the pieces that
     /// were received are mixed and written to the master, the tracks that are recorded are
     /// captured, the entry is noted, and butler and control are told. After a fault no entry is
-    /// made and nothing is captured; an InputFault comes before a MasterFault. It takes no memory,
-    /// and waits for nobody.
+    /// made and nothing is captured; an InputFault comes before a MasterFault. It takes no memory and
+    /// waits for no other worker; its read of the input and its write of the master may take long.
     pub fn cycle(&mut self, e: &Edition) -> Result<(), CycleFault>
         ghost at: { Playing }
         requires { MayCycle I.outside at e.now self.old }
@@ -82,9 +82,20 @@ impl<I: Source, W: Sink> Process<I, W> {
         // by which the session is valid that the edition has
         let _session = e.session();
         let at = self.position();
-        let mut made = entry(&self.playbacks, e.number(), e.transport().rolling, at);
+        let mut made = entry(
+            self.playbacks.as_slice(),
+            e.number(),
+            e.transport().rolling,
+            at,
+        );
         self.input.read()?;
-        write_block(&self.playbacks, e, made.state, at, &mut self.master)?;
+        write_block(
+            self.playbacks.as_slice(),
+            e,
+            made.state,
+            at,
+            &mut self.master,
+        )?;
         capture_all(
             e,
             rolls(made.state),

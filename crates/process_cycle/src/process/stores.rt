@@ -9,7 +9,7 @@ ghost use Rattle.process_cycle.specs.Ends.{block_of};
 
 use crate::ack_sender::AckSender;
 use cycle_journal::Journal;
-use ses_io::NoMemory;
+use ses_io::{FixedList, NoMemory};
 use session_model::Session;
 use std::alloc::Global;
 use track_capture::TrackCapture;
@@ -18,8 +18,8 @@ use track_playback::{TrackPlayback, new_playbacks};
 /// What is taken.
 #[derive(Drop)]
 pub(super) struct Stores {
-    pub(super) playbacks: Vec<TrackPlayback>,
-    pub(super) captures: Vec<TrackCapture>,
+    pub(super) playbacks: FixedList<TrackPlayback>,
+    pub(super) captures: FixedList<TrackCapture>,
     pub(super) journal: Journal,
     pub(super) to_butler: AckSender,
     pub(super) to_control: AckSender,
@@ -54,8 +54,8 @@ pub(super) fn new_stores(alloc: Global, s: &Session, cycles: u32) -> Result<Stor
     ensures journal { IfOk result (λ r. r.journal ≡ record { items = []; room = cycles }) }
 {
     Ok(Stores {
-        playbacks: new_playbacks(alloc, s)?,
-        captures: new_captures(alloc, s)?,
+        playbacks: FixedList::from_vec(new_playbacks(alloc, s)?),
+        captures: FixedList::from_vec(new_captures(alloc, s)?),
         journal: Journal::new(alloc, cycles)?,
         to_butler: AckSender::new(alloc)?,
         to_control: AckSender::new(alloc)?,

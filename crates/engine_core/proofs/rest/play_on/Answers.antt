@@ -31,7 +31,9 @@ playing-smaller-then-is_line_due g c =
 pub playing-preserved : goal.playing-preserved
 playing-preserved g c = let did = c.serial_cycle.ensures in
     rest.cycle_rests g.M.Media.outside g.I.Source.outside g.C.Source.outside g.W.Sink.outside g.O.Sink.outside g.on.opening g.on.letters c.playing.engine c.serial_cycle.new.run
-    (sym c.is_line_due.ensures ∙ c.if-is_line_due.false) (sym c.is_finished.ensures ∙ c.playing-test.true) did.under_way did.went_on did.as_machine c.playing.invariant
+    (sym c.is_line_due.ensures ∙ c.if-is_line_due.false) (sym c.is_finished.ensures ∙ c.playing-test.true) did.under_way did.went_on did.as_machine
+    (rest.may_play c.playing.engine.run c.playing.engine.control.standing c.playing.invariant.may.may_carry.unquit (sym c.is_line_due.ensures ∙ c.if-is_line_due.false) (sym c.is_finished.ensures ∙ c.playing-test.true))
+    did.loses_none did.newest did.plays_plain c.playing.invariant
 
 pub playing-smaller : goal.playing-smaller
 playing-smaller g c = let e = c.playing.engine in let did = c.serial_cycle.ensures in let is = c.playing.invariant in

@@ -1,8 +1,7 @@
-use Rattle.std.proofs.Common.{◌≡◌, true, length, drop}
+use Rattle.std.proofs.Common.{◌≡◌, ◌*◌, take}
 use Rattle.piece_item.specs.Silence.{zeros}
 use Rattle.piece_item.proofs.sample_block.all_zero.Given as goal
 
--- where all so far is zero and what is left is too, all is; and where all is, all so far is
-abbrev pub invariant-loop-sample : goal.invariant-loop-sample
-invariant-loop-sample l = (l.silent ≡ true → drop l.sample-index l.samples ≡ zeros (length (drop l.sample-index l.samples)) → l.samples ≡ zeros (length l.samples))
-    × (l.samples ≡ zeros (length l.samples) → l.silent ≡ true)
+-- the chunks so far are silence
+abbrev pub invariant-loop-k : goal.invariant-loop-k
+invariant-loop-k l = take (64 * l.k) l.samples ≡ zeros (64 * l.k)

@@ -1,5 +1,5 @@
 use Rattle.std.proofs.Common.{◌≡◌, ◌+◌, ◌-◌, ◌*◌, ◌++◌, map, sym, ap, subst, ◌∙◌}
-use Rattle.engine_core.specs.Events.{letter_of}
+use Rattle.run_letters.specs.Events.{letter_of}
 use Rattle.run_letters.specs.Letters.{letter_of_number, seed_letters}
 use Rattle.run_letters.proofs.SeedLemmas.{one_more}
 use Rattle.run_letters.proofs.seeds.seeded.Goals as goal

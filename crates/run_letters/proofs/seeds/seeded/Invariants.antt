@@ -1,5 +1,5 @@
 use Rattle.std.proofs.Common.{◌≡◌, ◌-◌, ◌++◌, map}
-use Rattle.engine_core.specs.Events.{letter_of}
+use Rattle.run_letters.specs.Events.{letter_of}
 use Rattle.run_letters.specs.Letters.{seed_letters}
 use Rattle.run_letters.proofs.seeds.seeded.Given as goal
 

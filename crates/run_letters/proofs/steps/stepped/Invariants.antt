@@ -1,5 +1,5 @@
 use Rattle.std.proofs.Common.{◌≡◌, map, take}
-use Rattle.engine_core.specs.Events.{letter_of}
+use Rattle.run_letters.specs.Events.{letter_of}
 use Rattle.run_letters.specs.Letters.{letters_in}
 use Rattle.run_letters.proofs.steps.stepped.Given as goal
 

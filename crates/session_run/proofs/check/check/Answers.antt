@@ -6,5 +6,5 @@ use Rattle.session_run.proofs.check.check.Goals as goal
 
 pub returns : goal.returns
 returns g c = let r = c.count-status.ensures in let o = c.unplayed.ensures in
-    does.of_unplayed g.M.Media.outside g.I.Source.outside g.C.Source.outside g.W.Sink.outside g.O.Sink.outside c.args.world c.unplayed.result (Some (Checks c.args.name.now)) tt c.count-status.new.media c.count-status.new.out c.count-status.result
+    does.of_unplayed g.M.Media.outside g.I.Source.outside g.C.Source.outside g.W.Sink.outside g.O.Sink.outside c.args.world c.unplayed.result (Some (Checks c.args.name.now)) tt c.count-status.new.media (λ none. absurd none) c.count-status.new.out c.count-status.result
     r.ends r.status (status.check_not_master c.count-status.result r.status) r.written r.reads r.writes r.only_reads o.status o.world o.journal o.rings o.acks

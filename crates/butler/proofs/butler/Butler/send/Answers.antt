@@ -13,16 +13,16 @@ use Rattle.butler.proofs.StockLemmas.{rewritten, sent_stocked}
 use Rattle.butler.proofs.butler.Butler.send.Goals as goal
 
 pub returns : goal.returns
-returns g c = let holds = c.self.inside.holds in let ends = c.self.inside.ends in let ps = c.deref_mut.result.now in let ds = c.as_mut_slice-sends.result.now in
-    let qs : List TrackSupply = take holds.supplies.len (c.send_all-answer.new.supplies ++ drop (length c.send_all-answer.new.supplies) holds.supplies.items) in
+returns g c = let holds = c.self.inside.holds in let ends = c.self.inside.ends in let ps = c.as_mut_slice.result.now in let ds = c.as_mut_slice-sends.result.now in
+    let qs : List TrackSupply = take (length holds.supplies.items) (c.send_all-answer.new.supplies ++ drop (length c.send_all-answer.new.supplies) holds.supplies.items) in
     let fs : List (Sender Item) = take (length ends.sends.items) (c.send_all-answer.new.sends ++ drop (length c.send_all-answer.new.sends) ends.sends.items) in
-    let next : c.next_of.result ≡ slice_index_or holds.nexts.items c.args.e.now.transport.generation 0 = c.next_of.ensures ∙ ap (λ (ns : List ℕ). slice_index_or ns c.args.e.now.transport.generation 0) c.deref.ensures.value in
-    let written : c.send_all-answer.new.supplies ≡ qs = sym (rewritten holds.supplies.len c.send_all-answer.new.supplies holds.supplies.items (c.send_all-answer.auto.supplies ∙ c.deref_mut.ensures.len)) in
+    let next : c.next_of.result ≡ slice_index_or holds.nexts.items c.args.e.now.transport.generation 0 = c.next_of.ensures ∙ ap (λ (ns : List ℕ). slice_index_or ns c.args.e.now.transport.generation 0) c.as_slice.ensures.items in
+    let written : c.send_all-answer.new.supplies ≡ qs = sym (rewritten (length holds.supplies.items) c.send_all-answer.new.supplies holds.supplies.items (c.send_all-answer.auto.supplies ∙ ap length c.as_mut_slice.ensures.items)) in
     let sent : c.send_all-answer.new.sends ≡ fs = sym (rewritten (length ends.sends.items) c.send_all-answer.new.sends ends.sends.items (c.send_all-answer.auto.sends ∙ ap length c.as_mut_slice-sends.ensures.items)) in
     let goes = goes_as g.M.Media.outside c.args.e.now holds.cycles c.next_of.result (slice_index_or holds.nexts.items c.args.e.now.transport.generation 0) ps holds.supplies.items ds ends.sends.items
-    c.send_all-answer.new.sends fs next c.deref_mut.ensures.value c.as_mut_slice-sends.ensures.items sent c.args.most c.send_all-answer.result holds.reader c.send_all-answer.new.supplies qs written c.send_all-answer.ensures.goes in
+    c.send_all-answer.new.sends fs next c.as_mut_slice.ensures.items c.as_mut_slice-sends.ensures.items sent c.args.most c.send_all-answer.result holds.reader c.send_all-answer.new.supplies qs written c.send_all-answer.ensures.goes in
     let hand = hand_as g.M.Media.outside c.args.e.now holds.cycles c.next_of.result (slice_index_or holds.nexts.items c.args.e.now.transport.generation 0) ps holds.supplies.items ds ends.sends.items
-    c.send_all-answer.new.sends fs next c.deref_mut.ensures.value c.as_mut_slice-sends.ensures.items sent holds.reader c.send_all-answer.new.reader c.send_all-answer.ensures.at_hand in record {
+    c.send_all-answer.new.sends fs next c.as_mut_slice.ensures.items c.as_mut_slice-sends.ensures.items sent holds.reader c.send_all-answer.new.reader c.send_all-answer.ensures.at_hand in record {
       same = search rules;
       quiet = search rules;
       busy = λ was. (
@@ -38,14 +38,14 @@ returns g c = let holds = c.self.inside.holds in let ends = c.self.inside.ends i
     }
 
 pub invariant_of-self-2 : goal.invariant_of-self-2
-invariant_of-self-2 g c = let holds = c.self.inside.holds in let ends = c.self.inside.ends in let ps = c.deref_mut.result.now in let ds = c.as_mut_slice-sends.result.now in
-    let qs : List TrackSupply = take holds.supplies.len (c.send_all-answer.new.supplies ++ drop (length c.send_all-answer.new.supplies) holds.supplies.items) in
+invariant_of-self-2 g c = let holds = c.self.inside.holds in let ends = c.self.inside.ends in let ps = c.as_mut_slice.result.now in let ds = c.as_mut_slice-sends.result.now in
+    let qs : List TrackSupply = take (length holds.supplies.items) (c.send_all-answer.new.supplies ++ drop (length c.send_all-answer.new.supplies) holds.supplies.items) in
     let fs : List (Sender Item) = take (length ends.sends.items) (c.send_all-answer.new.sends ++ drop (length c.send_all-answer.new.sends) ends.sends.items) in
-    let written : c.send_all-answer.new.supplies ≡ qs = sym (rewritten holds.supplies.len c.send_all-answer.new.supplies holds.supplies.items (c.send_all-answer.auto.supplies ∙ c.deref_mut.ensures.len)) in
+    let written : c.send_all-answer.new.supplies ≡ qs = sym (rewritten (length holds.supplies.items) c.send_all-answer.new.supplies holds.supplies.items (c.send_all-answer.auto.supplies ∙ ap length c.as_mut_slice.ensures.items)) in
     let sent : c.send_all-answer.new.sends ≡ fs = sym (rewritten (length ends.sends.items) c.send_all-answer.new.sends ends.sends.items (c.send_all-answer.auto.sends ∙ ap length c.as_mut_slice-sends.ensures.items)) in (
       sent_stocked _ _ _ holds.supplies.items qs holds.drain ends c.self.invariant.0 c.args.most (record { items = fs; room = ends.sends.room }) c.send_all-answer.result
           (goes_as g.M.Media.outside c.args.e.now holds.cycles c.next_of.result c.next_of.result ps holds.supplies.items ds ends.sends.items c.send_all-answer.new.sends fs
-          refl c.deref_mut.ensures.value c.as_mut_slice-sends.ensures.items sent c.args.most c.send_all-answer.result holds.reader c.send_all-answer.new.supplies qs written c.send_all-answer.ensures.goes),
+          refl c.as_mut_slice.ensures.items c.as_mut_slice-sends.ensures.items sent c.args.most c.send_all-answer.result holds.reader c.send_all-answer.new.supplies qs written c.send_all-answer.ensures.goes),
       c.self.invariant.1,
       c.self.invariant.2,
       c.self.invariant.3,

@@ -1,5 +1,5 @@
 use Rattle.std.proofs.Common.{sym, subst}
-use Rattle.engine_core.specs.Events.{letter_of}
+use Rattle.run_letters.specs.Events.{letter_of}
 use Rattle.engine_core.specs.Going.{GoesOnBy}
 use Rattle.engine_core.proofs.EventLemmas as events
 use Rattle.engine_core.proofs.GoingLemmas.{carry_goes}

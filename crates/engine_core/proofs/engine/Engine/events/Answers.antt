@@ -1,7 +1,8 @@
 use Rattle.std.proofs.Common.{◌++◌, take, subst}
 use Rattle.std.specs.Prelude.{map}
-use Rattle.engine_core.specs.declared.events.Event.TheVariants.{Control}
-use Rattle.engine_core.specs.Events.{and_given, given, letter_of}
+use Rattle.run_letters.specs.declared.event.Event.TheVariants.{Control}
+use Rattle.run_letters.specs.Events.{letter_of}
+use Rattle.engine_core.specs.Events.{and_given, given}
 use Rattle.engine_core.specs.Going.{IsGoing}
 use Rattle.engine_core.proofs.EventLemmas.{one_more, taken_all}
 use Rattle.engine_core.proofs.engine.Engine.events.Goals as goal

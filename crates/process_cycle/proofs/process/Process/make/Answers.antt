@@ -9,14 +9,14 @@ use Rattle.process_cycle.proofs.PlayingLemmas.{rewritten}
 use Rattle.process_cycle.proofs.process.Process.make.Goals as goal
 
 pub entry-made-requires : goal.entry-made-requires
-entry-made-requires g c = let may = c.requires.1.1.0 in let these = c.deref.ensures.value ∙ ap (λ p. p.playbacks) c.self.view_is in
+entry-made-requires g c = let may = c.requires.1.1.0 in let these = c.as_slice.ensures.items ∙ ap (λ p. p.playbacks) c.self.view_is in
     (are_heard g.I.Source.outside g.on.at c.args.e.now c.args.self.now may _ _ _ c.position-at.ensures c.requires.1.1.1.plays these, few_tracks g.I.Source.outside g.on.at c.args.e.now c.args.self.now may _ these)
 
 pub write_block-requires : goal.write_block-requires
 write_block-requires g c κs within = let may = c.requires.1.1.0 in let of = c.requires.1.1.1 in let inputs = g.I.Source.outside in let e = c.args.e.now in let p = c.args.self.now in (
   within,
   (
-    are_heard inputs g.on.at e p may _ _ _ c.position-at.ensures of.plays (c.deref-2.ensures.value ∙ ap (λ p. p.playbacks) c.self.view_is),
+    are_heard inputs g.on.at e p may _ _ _ c.position-at.ensures of.plays (c.as_slice-2.ensures.items ∙ ap (λ p. p.playbacks) c.self.view_is),
     (
       ap length of.plays ∙ may.playing.plays,
       (
@@ -38,7 +38,7 @@ write_block-requires g c κs within = let may = c.requires.1.1.0 in let of = c.r
 
 pub capture_all-requires : goal.capture_all-requires
 capture_all-requires g c = let may = c.requires.1.1.0 in let of = c.requires.1.1.1 in let inputs = g.I.Source.outside in let e = c.args.e.now in let p = c.args.self.now in
-    let captures = c.as_mut_slice.ensures.value ∙ ap (λ p. p.captures) c.self.view_is in
+    let captures = c.as_mut_slice.ensures.items ∙ ap (λ p. p.captures) c.self.view_is in
     let rings = c.as_mut_slice-2.ensures.items ∙ ap (λ p. p.ends.takes.items) c.self.view_is in
     let many = ap length captures ∙ may.playing.captures in (
       many ∙ sym (tracks_same inputs g.on.at e p may),
@@ -60,8 +60,8 @@ capture_all-requires g c = let may = c.requires.1.1.0 in let of = c.requires.1.1
 
 pub returns-clause-made : goal.returns-clause-made
 returns-clause-made g c = let of = c.requires.1.1.1 in let e = c.args.e.now in let p = c.args.self.now in
-    let captures = c.as_mut_slice.ensures.value in let rings = c.as_mut_slice-2.ensures.items in
-    let captures_is = rewritten c.self.inside.captures.len c.capture_all.new.captures c.self.inside.captures.items (c.capture_all.auto.captures ∙ c.as_mut_slice.ensures.len) in
+    let captures = c.as_mut_slice.ensures.items in let rings = c.as_mut_slice-2.ensures.items in
+    let captures_is = rewritten (length c.self.inside.captures.items) c.capture_all.new.captures c.self.inside.captures.items (c.capture_all.auto.captures ∙ ap length c.as_mut_slice.ensures.items) in
     let rings_is = rewritten (length c.self.inside.ends.takes.items) c.capture_all.new.rings c.self.inside.ends.takes.items (c.capture_all.auto.rings ∙ ap length rings) in
     let notes_is = rewritten (length c.entry-made.result.notes.items) c.capture_all.new.notes c.entry-made.result.notes.items (c.capture_all.auto.notes ∙ ap length c.as_mut_slice-3.ensures.value) in record {
       valid = c.session-session.ensures.seen.valid;
@@ -82,7 +82,7 @@ returns-clause-made g c = let of = c.requires.1.1.1 in let e = c.args.e.now in l
         input = c.read.new.self;
         master = c.write_block.new.master;
         ends = record { plays = q.ends.plays; takes = with_items c.self.inside.ends.takes c.capture_all.new.rings; to_butler = q.ends.to_butler; to_control = q.ends.to_control };
-        captures = take c.self.inside.captures.len (c.capture_all.new.captures ++ drop (length c.capture_all.new.captures) c.self.inside.captures.items);
+        captures = take (length c.self.inside.captures.items) (c.capture_all.new.captures ++ drop (length c.capture_all.new.captures) c.self.inside.captures.items);
       }) c.self.view_is;
     }
 

@@ -1,0 +1,2 @@
+-- The lemmas of silence.
+pub mod ZeroLemmas

@@ -1,0 +1,2 @@
+-- What contracts see of files and streams of the system.
+pub mod Counts
