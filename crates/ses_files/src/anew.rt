@@ -1,10 +1,11 @@
 //! Opens a file to be written anew, where that destroys nothing that is read or that lies elsewhere.
 use crate::file_id::FileId;
 use crate::files_read::FilesRead;
+use crate::hints;
 use ses_io::Failed;
 use std::fs;
 use std::fs::{Metadata, OpenFile, OpenOptions};
-use std::io::ErrorKind;
+use std::io::{Eprint, ErrorKind};
 use std::path::Path;
 use std::rt::Files;
 
@@ -32,7 +33,10 @@ fn may_follow<R: Files + AllocGlobal>(rt: &R, path: &str) -> Result<bool, Failed
 }
 
 // What is at the path, None where nothing is. A link that leads to nothing is refused, and one to a file elsewhere.
-fn target<R: Files + AllocGlobal>(rt: &R, path: &str) -> Result<Option<Metadata>, Failed> {
+fn target<R>(rt: &R, path: &str) -> Result<Option<Metadata>, Failed>
+where
+    R: Files + AllocGlobal + Eprint,
+{
     let found = match fs::symlink_metadata(rt, path) {
         Ok(found) => found,
         Err(e) if e.kind() == ErrorKind::NotFound => return Ok(None),
@@ -43,6 +47,7 @@ fn target<R: Files + AllocGlobal>(rt: &R, path: &str) -> Result<Option<Metadata>
     }
     let led_to = fs::metadata(rt, path).map_err(|_| Failed)?;
     if led_to.is_file() && !may_follow(rt, path)? {
+        hints::leads_out(rt, path);
         return Err(Failed);
     }
     Ok(Some(led_to))
@@ -65,7 +70,7 @@ fn open_target<R: Files>(rt: &R, path: &str, target: &Metadata) -> Result<R::Fil
 /// Opens what the path names to be written from its start: a file, which is emptied or made, a pipe
 /// or a device. Before anything is opened it is refused where it is a file that is read, or is
 /// reached by a link that leads out of the folder or to nothing.
-pub(crate) fn open_anew<R: Files + AllocGlobal>(
+pub(crate) fn open_anew<R: Files + AllocGlobal + Eprint>(
     rt: &R,
     path: &str,
     read: &FilesRead,
@@ -76,6 +81,7 @@ pub(crate) fn open_anew<R: Files + AllocGlobal>(
         return how.open(rt, path).map_err(|_| Failed);
     };
     if target.is_file() && read.has(FileId::of(&target)) {
+        hints::is_read(rt, path);
         return Err(Failed);
     }
     open_target(rt, path, &target)

@@ -4,14 +4,15 @@ ghost use Rattle.std.specs.Prelude.{◌≡◌, ◌<◌, ◌≤◌, length, IfOk}
 use crate::anew::open_anew;
 use crate::counted::counted;
 use crate::files_read::FilesRead;
-use crate::tries;
+use crate::{hints, tries};
 use ses_io::{Failed, Sink};
+use std::io::Eprint;
 use std::marker::Model;
 use std::rt::Files;
 
 /// A file that is made anew, empty, at the first write, or a pipe or a device. What is read, or is
-/// reached by a link that leads out of the folder, isn't touched: the write fails. Contracts see it
-/// as its count of faults.
+/// reached by a link that leads out of the folder, isn't touched: the write fails. A fault is told
+/// on standard error. Contracts see it as its count of faults.
 #[derive(Drop)]
 pub struct FileSink<R: Files> {
     rt: R,
@@ -29,7 +30,7 @@ impl<R: Files> Model for FileSink<R> {
     ghost view = { λ s. s.faults };
 }
 
-impl<R: Files + AllocGlobal + Drop> FileSink<R> {
+impl<R: Files + AllocGlobal + Eprint + Drop> FileSink<R> {
     /// A sink to the file at that path, which isn't touched yet, and isn't one of those that are read.
     pub fn new(rt: R, path: String, read: FilesRead) -> FileSink<R>
         ensures { result ≡ 0 }
@@ -58,7 +59,7 @@ impl<R: Files + AllocGlobal + Drop> FileSink<R> {
     }
 }
 
-impl<R: Files + AllocGlobal + Drop> Sink for FileSink<R> {
+impl<R: Files + AllocGlobal + Eprint + Drop> Sink for FileSink<R> {
     ghost use Rattle.std.specs.Prelude.{[]};
 
     ghost outside = { record {
@@ -69,6 +70,9 @@ impl<R: Files + AllocGlobal + Drop> Sink for FileSink<R> {
 
     fn write(&mut self, bytes: &[u8]) -> Result<usize, Failed> {
         let result = self.write_opened(bytes);
+        if result.is_err() {
+            hints::cant_be_written(&self.rt, self.path.as_str());
+        }
         counted(&mut self.faults, result)
     }
 }

@@ -4,16 +4,16 @@ ghost use Rattle.std.specs.Prelude.{◌≡◌, ◌≤◌, length, IfOk};
 use crate::counted::counted;
 use crate::file_id::FileId;
 use crate::files_read::FilesRead;
-use crate::tries;
+use crate::{hints, tries};
 use ses_io::{Failed, Source};
 use std::fs;
 use std::fs::OpenFile;
-use std::io::ErrorKind;
+use std::io::{Eprint, ErrorKind};
 use std::marker::Model;
 use std::rt::Files;
 
-/// A file that is opened at the first read, and reads as an empty one where it is absent then.
-/// Contracts see it as its count of faults.
+/// A file that is opened at the first read, and reads as an empty one where it is absent then, which
+/// is noted. A fault is told on standard error. Contracts see it as its count of faults.
 #[derive(Drop)]
 pub struct FileSource<R: Files> {
     rt: R,
@@ -38,7 +38,7 @@ impl<R: Files> Model for FileSource<R> {
     ghost view = { λ s. s.faults };
 }
 
-impl<R: Files + Drop> FileSource<R> {
+impl<R: Files + Eprint + Drop> FileSource<R> {
     /// A source of the file at that path, which isn't opened yet, and is noted then.
     pub fn new(rt: R, path: String, read: FilesRead) -> FileSource<R>
         ensures { result ≡ 0 }
@@ -62,7 +62,10 @@ impl<R: Files + Drop> FileSource<R> {
                     self.read.note(FileId::of(&data))?;
                     Opened::File(file)
                 }
-                Err(e) if e.kind() == ErrorKind::NotFound => Opened::Absent,
+                Err(e) if e.kind() == ErrorKind::NotFound => {
+                    self.read.note_silence();
+                    Opened::Absent
+                }
                 Err(_) => return Err(Failed),
             };
         }
@@ -81,7 +84,7 @@ impl<R: Files + Drop> FileSource<R> {
     }
 }
 
-impl<R: Files + Drop> Source for FileSource<R> {
+impl<R: Files + Eprint + Drop> Source for FileSource<R> {
     ghost use Rattle.std.specs.Prelude.{[]};
 
     ghost outside = { record {
@@ -92,6 +95,9 @@ impl<R: Files + Drop> Source for FileSource<R> {
 
     fn read(&mut self, buf: &mut [u8]) -> Result<usize, Failed> {
         let result = self.read_opened(buf);
+        if result.is_err() {
+            hints::cant_be_read(&self.rt, self.path.as_str());
+        }
         counted(&mut self.faults, result)
     }
 }

@@ -3,13 +3,14 @@ ghost use Rattle.std.specs.Prelude.{◌≡◌, ◌<◌, length, IfSome, IfOk};
 
 use crate::file_id::FileId;
 use crate::files_read::FilesRead;
+use crate::hints;
 use crate::kept_files::{Kept, KeptFiles};
 use crate::made_files::{Made, MadeFiles};
 use ses_io::Failed;
 use std::alloc::AllocError;
 use std::fs;
 use std::fs::{Metadata, OpenFile, OpenOptions};
-use std::io::ErrorKind;
+use std::io::{Eprint, ErrorKind};
 use std::rt::Files;
 
 /// The folder's path, room for that of a file in it, and which files are read.
@@ -21,7 +22,7 @@ pub(crate) struct Folder<R> {
     read: FilesRead,
 }
 
-impl<R: Files + AllocGlobal + Clone + Drop> Folder<R> {
+impl<R: Files + AllocGlobal + Eprint + Clone + Drop> Folder<R> {
     /// The empty path stands for the current folder.
     pub(crate) fn new(rt: R, folder: String, read: FilesRead) -> Folder<R> {
         let path = String::new(rt.alloc());
@@ -43,11 +44,16 @@ impl<R: Files + AllocGlobal + Clone + Drop> Folder<R> {
         self.path.push_str(name)
     }
 
-    /// What the system says of the file, None where it is absent.
+    /// What the system says of the file, None where it is absent. A pipe, a device or a folder is a fault, so that none
+    /// is waited for.
     fn data(&mut self, name: &str) -> Result<Option<Metadata>, Failed> {
         self.find(name).map_err(|_| Failed)?;
         match fs::metadata(&self.rt, self.path.as_str()) {
-            Ok(data) => Ok(Some(data)),
+            Ok(data) if data.is_file() => Ok(Some(data)),
+            Ok(_) => {
+                hints::is_no_file(&self.rt, self.path.as_str());
+                Err(Failed)
+            }
             Err(e) if e.kind() == ErrorKind::NotFound => Ok(None),
             Err(_) => Err(Failed),
         }
@@ -81,6 +87,9 @@ impl<R: Files + AllocGlobal + Clone + Drop> Folder<R> {
             kept.close(place);
             return Err(Failed);
         }
+        if self.data(name)?.is_none() {
+            return Ok(None);
+        }
         let mut how = OpenOptions::new();
         let Some(file) = self.open(name, how.read(true))? else {
             return Ok(None);
@@ -92,7 +101,8 @@ impl<R: Files + AllocGlobal + Clone + Drop> Folder<R> {
         Ok(Some(place.map_err(|_| Failed)?))
     }
 
-    /// Makes the file, and answers its place. Where its name stands for something it is a fault.
+    /// Makes the file, and answers its place. Where its name stands for something it is a fault. Where there is no input the
+    /// first one is told of.
     pub(crate) fn make(
         &mut self,
         made: &mut MadeFiles<R::File>,
@@ -105,6 +115,9 @@ impl<R: Files + AllocGlobal + Clone + Drop> Folder<R> {
         let Some(file) = self.open(name, how.write(true).create_new(true))? else {
             return Err(Failed);
         };
+        if self.read.takes_silence() {
+            hints::is_silent(&self.rt, name);
+        }
         let id = FileId::of(&file.metadata().map_err(|_| Failed)?);
         made.add(Made::new(own, id, file)).map_err(|_| Failed)
     }
@@ -137,6 +150,15 @@ impl<R: Files + AllocGlobal + Clone + Drop> Folder<R> {
         }
         made.keep(place, file);
         Ok(())
+    }
+
+    /// Tells on standard error that a read of the file failed, or a write.
+    pub(crate) fn tell_read(&self, name: &str) {
+        hints::cant_be_read(&self.rt, name);
+    }
+
+    pub(crate) fn tell_write(&self, name: &str) {
+        hints::cant_be_written(&self.rt, name);
     }
 
     /// The bytes of the file, None where it is absent.

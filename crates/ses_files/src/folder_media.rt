@@ -8,6 +8,7 @@ use crate::kept_files::KeptFiles;
 use crate::made_files::MadeFiles;
 use crate::tries;
 use ses_io::{Failed, Media};
+use std::io::Eprint;
 use std::marker::Model;
 use std::os::unix::fs::FileExt;
 use std::rt::Files;
@@ -15,8 +16,8 @@ use std::rt::Files;
 /// The files of a folder. Up to 64 that were read and up to 64 that were made stay open, so that each
 /// is opened once. One that was read, and that another program takes away or puts another in place
 /// of meanwhile, is a fault when it is asked for. It writes to no file but those that it made, where
-/// none was, and to each only as long as it is as this left it. Contracts see a folder as its two
-/// counts of faults.
+/// none was, and to each only as long as it is as this left it. Each fault is told on standard
+/// error with the file's name. Contracts see a folder as its two counts of faults.
 #[derive(Drop)]
 pub struct FolderMedia<R: Files> {
     folder: Folder<R>,
@@ -34,7 +35,7 @@ impl<R: Files> Model for FolderMedia<R> {
     ghost view = { λ m. record { read_faults = m.read_faults; write_faults = m.write_faults } };
 }
 
-impl<R: Files + AllocGlobal + Clone + Drop> FolderMedia<R>
+impl<R: Files + AllocGlobal + Eprint + Clone + Drop> FolderMedia<R>
 where
     R::File: FileExt,
 {
@@ -50,6 +51,18 @@ where
             made: MadeFiles::new(alloc),
             read_faults: 0,
             write_faults: 0,
+        }
+    }
+
+    fn tell_read(&self, name: &str, failed: bool) {
+        if failed {
+            self.folder.tell_read(name);
+        }
+    }
+
+    fn tell_write(&self, name: &str, failed: bool) {
+        if failed {
+            self.folder.tell_write(name);
         }
     }
 
@@ -89,7 +102,7 @@ where
     }
 }
 
-impl<R: Files + AllocGlobal + Clone + Drop> Media for FolderMedia<R>
+impl<R: Files + AllocGlobal + Eprint + Clone + Drop> Media for FolderMedia<R>
 where
     R::File: FileExt,
 {
@@ -104,26 +117,31 @@ where
 
     fn size(&mut self, name: &str) -> Result<Option<u64>, Failed> {
         let outcome = self.folder.size(name);
+        self.tell_read(name, outcome.is_err());
         counted(&mut self.read_faults, outcome)
     }
 
     fn any(&mut self, prefix: &str) -> Result<bool, Failed> {
         let outcome = self.folder.any(prefix);
+        self.tell_read(".", outcome.is_err());
         counted(&mut self.read_faults, outcome)
     }
 
     fn read_at(&mut self, name: &str, at: u64, buf: &mut [u8]) -> Result<usize, Failed> {
         let outcome = self.try_read(name, at, buf);
+        self.tell_read(name, outcome.is_err());
         counted(&mut self.read_faults, outcome)
     }
 
     fn append(&mut self, name: &str, bytes: &[u8]) -> Result<usize, Failed> {
         let outcome = self.try_append(name, bytes);
+        self.tell_write(name, outcome.is_err());
         counted(&mut self.write_faults, outcome)
     }
 
     fn write_at(&mut self, name: &str, at: u64, bytes: &[u8]) -> Result<usize, Failed> {
         let outcome = self.try_write(name, at, bytes);
+        self.tell_write(name, outcome.is_err());
         counted(&mut self.write_faults, outcome)
     }
 }

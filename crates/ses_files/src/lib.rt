@@ -9,6 +9,7 @@ mod file_source;
 mod files_read;
 mod folder;
 mod folder_media;
+mod hints;
 mod kept_files;
 mod made_files;
 mod read_source;
