@@ -70,11 +70,15 @@ def what_is_wrong(path, sound):
     return None
 
 
-def is_opened(folder, name):
+def is_opened(path):
     """The program itself takes the file as a source."""
-    with open(os.path.join(folder, "heard.toml"), "w") as file:
-        file.write('[session]\nversion = 1\nrate = %d\nbits = 24\nchannels = 1\nblock = 4\ndepth = 2\n[[source]]\nname = "a"\nfile = "%s"\nchannels = 1\n' % (RATE, name))
-    return subprocess.run([PROGRAM, "check", "heard.toml"], cwd=folder, stdout=subprocess.DEVNULL, stderr=subprocess.DEVNULL).returncode == 0
+    with tempfile.TemporaryDirectory() as folder:
+        os.symlink(path, os.path.join(folder, "a.wav"))
+        with open(os.path.join(folder, "s.toml"), "w") as file:
+            file.write("[session]\nversion = 1\nrate = %d\nbits = 24\nchannels = 1\nblock = 4\ndepth = 2\n" % RATE)
+            file.write('[[source]]\nname = "a"\nfile = "a.wav"\nchannels = 1\n')
+        words = [PROGRAM, "check", "s.toml"]
+        return subprocess.run(words, cwd=folder, stdout=subprocess.DEVNULL, stderr=subprocess.DEVNULL).returncode == 0
 
 
 def look(folder, sounds, counts):
@@ -85,7 +89,7 @@ def look(folder, sounds, counts):
         if not os.path.exists(path):
             continue
         wrong = what_is_wrong(path, sound)
-        if wrong is None and not is_opened(folder, name):
+        if wrong is None and not is_opened(path):
             wrong = "the program doesn't open it"
         counts["right" if wrong is None else "without a head" if wrong == "" else "wrong"] += 1
         if wrong:
