@@ -1,25 +1,27 @@
 -- Files that were flushed whole and then closed hold the takes of the journal; closed in part, they have fronts of them.
-use Rattle.std.proofs.Common.{◌≡◌, inl, inr, ℕ, ◌^◌, ◌≤◌, ◌<◌, List, [], ◌++◌, length, refl, sym, ap, subst, arith, ◌∙◌}
+use Rattle.std.proofs.Common.{◌≡◌, inl, inr, ℕ, ◌^◌, ◌≤◌, ◌<◌, List, [], ◌++◌, drop, length, refl, sym, ap, subst, arith, ◌∙◌}
 use Rattle.std.specs.Prelude.{Bool, true, false, ◌==◌, nat_lt, if◌then◌else◌, Option, Some, None, IfSome, All, unwrap_or}
 use Rattle.std.specs.List.{list_any}
 use Rattle.std.specs.Str.{bytes_eq}
 use Rattle.std.proofs.lemmas.Bool.{and_parts, cases_Bool, false≢true, ltb-true, ne_eqb}
+use Rattle.std.proofs.lemmas.List.{length-append}
 use Rattle.std.proofs.lemmas.List.Elements.{All-weaker}
 use Rattle.std.proofs.lemmas.Slice.Eq.{bytes_eq-Decides}
 use Rattle.ses_io.specs.Files.{Files, content}
 use Rattle.ses_io.proofs.Files.{bytes_eq-true}
 use Rattle.engine_model.specs.Journal.{Entry, note_of}
-use Rattle.engine_model.specs.Takes.{take_name}
+use Rattle.engine_model.specs.Takes.{take_file, take_name}
 use Rattle.engine_model.specs.Fits.{take_number}
 use Rattle.capture_flush.specs.declared.run.Run.{Run}
 use Rattle.capture_flush.specs.Blocks.{Block, blocks_in, taken_blocks}
 use Rattle.capture_flush.specs.Closing.{ClosesSomeTracks, closed_file, closed_tracks, runs_of}
 use Rattle.capture_flush.specs.Finished.{AreTakes, AreTakesInPart, IsCounted, IsNamed, Recorded, names_take, tape_of}
-use Rattle.capture_flush.specs.Flushed.{IsFlushed, IsFresh, IsTakeName, flushed_file, flushed_sound, no_head}
+use Rattle.capture_flush.specs.Flushed.{IsFlushed, IsFresh, IsFront, IsTakeName, flushed_file, flushed_sound, head_of}
 use Rattle.capture_flush.specs.Taking.{IsTakingOf, Taking}
 use Rattle.capture_flush.proofs.CountedLemmas.{follows}
 use Rattle.capture_flush.proofs.CloseLemmas.{AreReady, CanClose, IsTake, NoneNamed, Ready, takes_of, tracks_closed, tracks_elsewhere}
 use Rattle.capture_flush.proofs.FlushLemmas.{named_tracks}
+use Rattle.capture_flush.proofs.HeaderLemmas.{behind_head, head_long}
 use Rattle.capture_flush.proofs.NameLemmas.{no_take_held}
 use Rattle.capture_flush.proofs.PartLemmas.{FrontOfTake, some_tracks}
 use Rattle.capture_flush.proofs.NamedRunLemmas.{runs_of_it, unnamed}
@@ -61,7 +63,7 @@ module _ (run : Recorded) (journal : List Entry) (f : Taking) (files : Files) (c
   held_of t n lt = flushed.takes t n lt ∙ ap (flushed_file run.session t n) (taken_kept run.session run.input t journal (counted.takes t lt))
 
   pub none_held : (t n : ℕ) → t < length run.session.tracks.items → names_take t n journal ≡ false → files (take_name run.session t n) ≡ None
-  none_held t n lt not_named = held_of t n lt ∙ ap (λ k. if k == 0 then None else Some (no_head ++ flushed_sound run.session t n (taken_blocks run.session run.input t journal)))
+  none_held t n lt not_named = held_of t n lt ∙ ap (λ k. if k == 0 then None else Some (head_of run.session t k ++ flushed_sound run.session t n (taken_blocks run.session run.input t journal)))
       (none_came run.session run.input t n 0 journal (unnamed t n journal (counted.takes t lt) not_named))
 
   pub all_ready : CanClose run journal → (t : ℕ) → t < length run.session.tracks.items → AreReady run journal files t
@@ -103,9 +105,11 @@ front_of_flushed run journal t n counted lt named = by (blocks_in n bs == 0)
     some : 0 < n
     some = ltb-true 0 n (and_parts (nat_lt 0 n) (list_any (λ e. take_number (note_of t e).take == n) journal) named).0
 
-    by : (b : Bool) → IfSome (if b then None else Some (no_head ++ flushed_sound run.session t n bs)) (FrontOfTake run journal t n)
+    by : (b : Bool) → IfSome (if b then None else Some (head_of run.session t (blocks_in n bs) ++ flushed_sound run.session t n bs)) (FrontOfTake run journal t n)
     by true = tt
-    by false = flushed_front_of_take run.session run.input t n journal (counts_up t n journal (follows t journal (counted.takes t lt)) some)
+    by false = subst (λ l. IsFront l (drop 44 (take_file run.session run.input t n journal)))
+        (sym (behind_head run.session t (blocks_in n bs) (flushed_sound run.session t n bs)))
+        (flushed_front_of_take run.session run.input t n journal (counts_up t n journal (follows t journal (counted.takes t lt)) some))
 
 pub finished_in_part : (run : Recorded) (journal : List Entry) (f : Taking) (files files' : Files) → length journal < 2 ^ 64 → IsTakingOf run.session f → IsCounted run.session journal →
     IsFlushed (tape_of run journal) f files → ClosesSomeTracks run.session journal 0 (length run.session.tracks.items) files files' → AreTakesInPart run journal files'
@@ -123,5 +127,6 @@ has_heads run journal f files t of counted flushed lt = All-weaker (IsTake run j
   where
     room : (t : ℕ) (r : Run) → 0 < blocks_in r.take (taken_blocks run.session run.input t journal) →
         44 ≤ length (flushed_bytes run.session t r.take (taken_blocks run.session run.input t journal))
-    room t r some = let bs = taken_blocks run.session run.input t journal in
-        subst (λ b. 44 ≤ length (unwrap_or (if b then None else Some (no_head ++ flushed_sound run.session t r.take bs)) [])) (sym (ne_eqb (blocks_in r.take bs) 0 (λ none. absurd (omega arith)))) (omega arith)
+    room t r some = let bs = taken_blocks run.session run.input t journal in let head = head_of run.session t (blocks_in r.take bs) in
+        subst (λ b. 44 ≤ length (unwrap_or (if b then None else Some (head ++ flushed_sound run.session t r.take bs)) [])) (sym (ne_eqb (blocks_in r.take bs) 0 (λ none. absurd (omega arith))))
+        (omega (arith, length-append head (flushed_sound run.session t r.take bs), head_long run.session t (blocks_in r.take bs)))

@@ -8,6 +8,7 @@ pub mod EarlyLemmas
 pub mod EndingLemmas
 pub mod FinishLemmas
 pub mod FlushLemmas
+pub mod GiveLemmas
 pub mod HeaderLemmas
 pub mod KeepLemmas
 pub mod KeptLemmas

@@ -17,7 +17,7 @@ use Rattle.cycle_journal.specs.JournalView.{seen_take, seen_note, seen_entry, se
 use Rattle.capture_flush.specs.declared.run.Run.{Run}
 use Rattle.capture_flush.specs.Closing.{open_after, ended_by, runs_from, runs_of, closed, closed_file, closed_runs, ending, HasHead, ClosesSome, closed_tracks, ClosesSomeTracks}
 use Rattle.capture_flush.specs.Flushed.{block_bytes}
-use Rattle.capture_flush.proofs.TakeFileLemmas.{header_long}
+use Rattle.capture_flush.proofs.HeaderLemmas.{header_long}
 
 -- ---- one note
 

@@ -7,7 +7,7 @@ use Rattle.session_model.specs.declared.session.Session.{Session}
 use Rattle.engine_model.specs.Journal.{Take, Off, Taken, Lost, Entry, note_of}
 use Rattle.engine_model.specs.Takes.{take_form, take_name}
 use Rattle.capture_flush.specs.declared.run.Run.{Run}
-use Rattle.capture_flush.specs.Flushed.{no_head, block_bytes, IsFront}
+use Rattle.capture_flush.specs.Flushed.{no_blocks, block_bytes, IsFront}
 
 -- ---- the takes of a track, as they follow one another in a journal
 
@@ -35,14 +35,14 @@ runs_of t journal = runs_from None t journal
 
 -- ---- one file
 
--- what is put behind the blocks that came: room for a header where none did, zeros for those lost at the end, and the pad byte
+-- what is put behind the blocks that came: a header where none did, zeros for those lost at the end, and the pad byte
 -- `size`: the bytes of a block
-abbrev pub ending_of : ℕ → Run → List ℕ
-ending_of size run = (if run.filled == 0 then no_head else [])
+abbrev pub ending_of : List ℕ → ℕ → Run → List ℕ
+ending_of none size run = (if run.filled == 0 then none else [])
     ++ (replicate ((run.blocks - run.filled) * size) 0 ++ replicate (run.blocks * size % 2) 0)
 
 abbrev pub ending : Session → ℕ → Run → List ℕ
-ending s t run = ending_of (block_bytes s t) run
+ending s t run = ending_of (no_blocks s t) (block_bytes s t) run
 
 -- the file, where it held these bytes
 abbrev pub closed_file : Session → ℕ → Run → List ℕ → List ℕ
@@ -56,7 +56,7 @@ abbrev pub ClosesInPart : Session → ℕ → Run → Files → Files → Type 0
 ClosesInPart s t run old new = let name = take_name s t run.take in (new ≡ old)
     ⊎ ((bytes : List ℕ) × (new ≡ with_file old name bytes) × IsFront (drop 44 bytes) (drop 44 (content old name ++ ending s t run)))
 
--- where blocks of a take came, its file has room for a header
+-- where blocks of a take came, its file has a header
 abbrev pub HasHead : Session → ℕ → Files → Run → Type 0
 HasHead s t files run = 0 < run.filled → 44 ≤ length (content files (take_name s t run.take))
 

@@ -10,17 +10,19 @@ const NAME: &str = "take-t-1.wav";
 // The sound of the whole take: 1 to 8, and four zeros.
 const SOUND: &[u8] = b"\x01\0\x02\0\x03\0\x04\0\x05\0\x06\0\x07\0\x08\0\0\0\0\0\0\0\0\0";
 
-// A media that takes each piece whole is called five times: for the room of the header, the first block, the second one,
-// and at the end the zeros of the third one and the header. The call that fails, where, and the bytes that it leaves.
-const CALLS: [(u64, Ended, Option<usize>); 5] = [
+// A media that takes each piece whole is called six times: for the head of no blocks, the first block, the head of one,
+// the second block, and at the end the zeros of the third one and the header. The blocks are shorter than a head, which tells
+// of one of them until then. The call that fails, where, and the bytes that it leaves.
+const CALLS: [(u64, Ended, Option<usize>); 6] = [
     (1, Ended::AtBlock(0), None),
     (2, Ended::AtBlock(0), Some(44)),
-    (3, Ended::AtBlock(1), Some(52)),
-    (4, Ended::AtFinish, Some(60)),
-    (5, Ended::AtFinish, Some(68)),
+    (3, Ended::AtBlock(0), Some(52)),
+    (4, Ended::AtBlock(1), Some(52)),
+    (5, Ended::AtFinish, Some(60)),
+    (6, Ended::AtFinish, Some(68)),
 ];
 
-// Writes to the take fail from these places on; that of the header is at place 0.
+// Writes to the take fail from these places on; those over its head are at place 0.
 const PLACES: [(u64, Ended, Option<usize>); 5] = [
     (0, Ended::AtBlock(0), None),
     (44, Ended::AtBlock(0), Some(44)),
@@ -29,9 +31,9 @@ const PLACES: [(u64, Ended, Option<usize>); 5] = [
     (68, Ended::Whole, Some(68)),
 ];
 
-// The bytes that a media takes at once, and how often it is then called. Pieces of 44, 8, 8, 8 and 44 bytes are 112 calls
-// byte by byte, and 9 + 2 + 2 + 2 + 9 by five bytes.
-const PIECES: [(usize, u64); 3] = [(usize::MAX, 5), (5, 24), (1, 112)];
+// The bytes that a media takes at once, and how often it is then called. Pieces of 44, 8, 44, 8, 8 and 44 bytes are 156
+// calls byte by byte, and 9 + 2 + 9 + 2 + 2 + 9 by five bytes.
+const PIECES: [(usize, u64); 3] = [(usize::MAX, 6), (5, 33), (1, 156)];
 
 // The run over a media, and how it ended.
 fn ended(alloc: Global, media: QuietMedia) -> Option<(TakeBench<QuietMedia>, Ended)> {
@@ -81,7 +83,7 @@ fn a_file_that_takes_no_more_bytes_is_a_fault(rt: HostRuntime) {
     }
 }
 
-// Whether the file has a front of the sound behind the room for the header.
+// Whether the file has a front of the sound behind its head.
 fn has_front(media: &QuietMedia) -> bool {
     match media.held(NAME) {
         Some(held) => SOUND.starts_with(held.get(44..).unwrap_or(&[])),
