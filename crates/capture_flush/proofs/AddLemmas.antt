@@ -9,7 +9,7 @@ use Rattle.capture_flush.specs.declared.track.Place.{Place}
 use Rattle.capture_flush.specs.Blocks.{Block}
 use Rattle.capture_flush.specs.Flushed.{added, is_new, no_blocks, next_index, block_bytes}
 use Rattle.capture_flush.specs.Writes.{Adds}
-use Rattle.capture_flush.proofs.WriteLemmas.{Adds-none, Adds-then, Adds-as, Adds-stopped}
+use Rattle.capture_flush.proofs.WriteLemmas.{Adds-none, Adds-then, Adds-stopped}
 
 -- the three parts of what a block adds
 pub record Parts (s : Session) (t : ℕ) (last : Option Place) (b : Block) (head zeros sound : List ℕ) : Type 0 where

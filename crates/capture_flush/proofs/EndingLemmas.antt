@@ -3,7 +3,7 @@ use Rattle.std.proofs.Common.{◌≡◌, ℕ, zero, suc, ◌+◌, ◌-◌, ◌*�
 use Rattle.std.specs.Prelude.{replicate, ◌==◌}
 use Rattle.std.specs.Option.{unwrap_or}
 use Rattle.std.proofs.Math.Seq.{take_all, take-append-add, drop-append-add}
-use Rattle.std.proofs.lemmas.List.{length-take-le, drop-drop}
+use Rattle.std.proofs.lemmas.List.{length-drop, length-take-le, drop-drop}
 use Rattle.ses_io.specs.Files.{Files, content, with_file, overwritten, HasRange, AppendsSomeTo, OverwritesSome}
 use Rattle.ses_io.proofs.Files.{with_file-twice}
 use Rattle.session_model.specs.declared.session.Session.{Session}
@@ -79,13 +79,16 @@ pub part_added : (s : Session) (t : ℕ) (run : Run) (old new : Files) → Appen
 part_added s t run old new (inl same) = inl same
 part_added s t run old new (inr some) = let name = take_name s t run.take in let held = content old name in let more = ending s t run in
     let cut : held ++ take some.0 more ≡ take (length held + some.0) (held ++ more) = sym (take-append-add held more some.0) in
-    inr (held ++ take some.0 more, some.1.files, (length held + some.0 - 44, ap (drop 44) cut ∙ drop_front 44 (length held + some.0) (held ++ more)))
+    inr (held ++ take some.0 more, some.1.files, omega (arith, length-append held (take some.0 more)), (length held + some.0 - 44, ap (drop 44) cut ∙ drop_front 44 (length held + some.0) (held ++ more)))
 
 -- what is written over a part of the header changes nothing behind it
 pub behind_front : (all front : List ℕ) → length front ≤ 44 → drop 44 (overwritten all 0 front) ≡ drop 44 all
 behind_front all front few = let e : length front + (44 - length front) ≡ 44 = omega (arith, few) in
     ap (λ k. drop k (front ++ drop (0 + length front) all)) (sym e) ∙ drop-append-add front (drop (0 + length front) all) (44 - length front)
     ∙ drop-drop (44 - length front) (0 + length front) all ∙ ap (λ k. drop k all) {x = 0 + length front + (44 - length front)} {y = 44} (omega (arith, few))
+
+longer : (all front : List ℕ) → length all ≤ length (overwritten all 0 front)
+longer all front = omega (arith, length-append front (drop (0 + length front) all), length-drop (0 + length front) all)
 
 -- all of it was, and some of the header written
 pub part_written : (s : Session) (t : ℕ) (run : Run) (old middle new : Files) (head : List ℕ) → length head ≡ 44 → middle ≡ with_more old (take_name s t run.take) (ending s t run) →
@@ -98,6 +101,7 @@ part_written s t run old middle new head long more some = let name = take_name s
       some.1.files ∙ ap (λ m. with_file m name (overwritten (content m name) 0 (take n head))) more
           ∙ ap (λ held. with_file (with_more old name (ending s t run)) name (overwritten held 0 (take n head))) (content-more old name (ending s t run))
           ∙ with_file-more old name (ending s t run) written,
+      omega (arith, longer all (take n head), length-append (content old name) (ending s t run)),
       (length (drop 44 all), behind_front all (take n head) within ∙ sym (take_all (length (drop 44 all)) (drop 44 all) (omega arith))),
     )
 

@@ -1,5 +1,5 @@
 -- A block is given to a file: it is added, and then the head is renewed.
-use Rattle.std.proofs.Common.{◌≡◌, inl, inr, ℕ, zero, suc, ◌+◌, ◌-◌, ◌*◌, ◌/◌, ◌<◌, ◌≤◌, Bool, true, false, List, [], ◌∷◌, ◌++◌, length, take, drop, Option, None, Some, refl, sym, ap, ap₂, subst, ◌∙◌, arith, Result, Ok, Err, IsErr, OnOk, OnErr, true≢false}
+use Rattle.std.proofs.Common.{◌≡◌, inl, inr, ℕ, suc, ◌+◌, ◌-◌, ◌*◌, ◌/◌, ◌<◌, ◌≤◌, Bool, true, false, List, [], ◌∷◌, ◌++◌, length, take, drop, Option, None, Some, refl, sym, ap, ap₂, subst, ◌∙◌, arith, Result, Ok, Err, IsErr, OnOk, OnErr, true≢false}
 use Rattle.std.specs.Prelude.{replicate, nat_lt, min, max, not, ◌==◌, if◌then◌else◌}
 use Rattle.std.proofs.lemmas.Bool.{and_parts, cases_Bool, cases_lt, eqb-true, ltb-false, ne_eqb}
 use Rattle.std.proofs.lemmas.List.{length-append, length-take-le}

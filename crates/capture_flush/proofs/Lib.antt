@@ -6,6 +6,7 @@ pub mod CloseVectors
 pub mod CountedLemmas
 pub mod EarlyLemmas
 pub mod EndingLemmas
+pub mod EndsLemmas
 pub mod FinishLemmas
 pub mod FlushLemmas
 pub mod GiveLemmas
@@ -26,4 +27,5 @@ pub mod TakenLemmas
 pub mod TakingLemmas
 pub mod TimesLemmas
 pub mod WalkLemmas
+pub mod WholeLemmas
 pub mod WriteLemmas

@@ -2,9 +2,7 @@
 ghost use Rattle.std.specs.Prelude.{◌≡◌, ◌*◌, ◌<◌, ◌≤◌, ◌^◌, length, OnOk, OnErr};
 ghost use Rattle.ses_io.specs.Outside.{WriteCause};
 ghost use Rattle.session_model.specs.declared.session.Session.{Session as Opened};
-ghost use Rattle.engine_model.specs.Takes.{take_name};
 ghost use Rattle.capture_flush.specs.Closing.{ending_of, closed, HasHead, ClosesInPart};
-ghost use Rattle.capture_flush.specs.Flushed.{block_bytes};
 ghost use Rattle.capture_flush.specs.Taking.{IsTakingOf};
 ghost use Rattle.capture_flush.specs.Writes.{Adds};
 

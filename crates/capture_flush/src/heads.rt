@@ -6,7 +6,7 @@ ghost use Rattle.sound_model.specs.Wav.{header};
 ghost use Rattle.session_model.specs.declared.session.Session.{Session as Opened};
 ghost use Rattle.session_model.specs.Formed.{channels_at};
 ghost use Rattle.engine_model.specs.Takes.{take_form, take_name};
-ghost use Rattle.capture_flush.specs.Flushed.{block_bytes, second_blocks, stated, stated_of, head_of, renewed};
+ghost use Rattle.capture_flush.specs.Flushed.{block_bytes, second_blocks, stated, head_of, renewed};
 ghost use Rattle.capture_flush.specs.Taking.{IsTakingOf};
 
 use crate::fault::WriteFault;

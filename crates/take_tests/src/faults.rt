@@ -1,7 +1,7 @@
 //! Calls of the media that fail while the take of a lost block is written, one in each run.
 use crate::bench::{Ended, TakeBench, row_holds};
 use crate::media::QuietMedia;
-use crate::takes::THIRD_IS_LOST;
+use crate::takes::{ONE_IS_CUT, Row, THIRD_IS_LOST};
 use ses_io::MemMedia;
 use std::alloc::Global;
 
@@ -35,10 +35,10 @@ const PLACES: [(u64, Ended, Option<usize>); 5] = [
 // calls byte by byte, and 9 + 2 + 9 + 2 + 2 + 9 by five bytes.
 const PIECES: [(usize, u64); 3] = [(usize::MAX, 6), (5, 33), (1, 156)];
 
-// The run over a media, and how it ended.
-fn ended(alloc: Global, media: QuietMedia) -> Option<(TakeBench<QuietMedia>, Ended)> {
-    let mut bench = TakeBench::new(alloc, THIRD_IS_LOST.run.session, media)?;
-    let ended = bench.carry_out(alloc, &THIRD_IS_LOST.run)?;
+// The run of a row over a media, and how it ended.
+fn ended(alloc: Global, row: &Row, media: QuietMedia) -> Option<(TakeBench<QuietMedia>, Ended)> {
+    let mut bench = TakeBench::new(alloc, row.run.session, media)?;
+    let ended = bench.carry_out(alloc, &row.run)?;
     Some((bench, ended))
 }
 
@@ -46,14 +46,14 @@ fn ended(alloc: Global, media: QuietMedia) -> Option<(TakeBench<QuietMedia>, End
 fn failed(alloc: Global, n: u64, most: usize) -> Option<(TakeBench<QuietMedia>, Ended)> {
     let mut files = MemMedia::new(alloc);
     files.fail_call(n).ok()?;
-    ended(alloc, QuietMedia::new(files, most))
+    ended(alloc, &THIRD_IS_LOST, QuietMedia::new(files, most))
 }
 
 // Over one whose writes to the take fail from a place on.
-fn failed_from(alloc: Global, from: u64) -> Option<(TakeBench<QuietMedia>, Ended)> {
+fn failed_from(alloc: Global, row: &Row, from: u64) -> Option<(TakeBench<QuietMedia>, Ended)> {
     let mut files = MemMedia::new(alloc);
     files.fail_writes(NAME, from).ok()?;
-    ended(alloc, QuietMedia::new(files, usize::MAX))
+    ended(alloc, row, QuietMedia::new(files, usize::MAX))
 }
 
 // Whether a run ended so, and its file has so many bytes.
@@ -78,9 +78,28 @@ fn a_file_that_takes_no_more_bytes_is_a_fault(rt: HostRuntime) {
         row_holds(
             &rt,
             at,
-            is_ended(failed_from(rt.alloc(), *from), *want, *size),
+            is_ended(failed_from(rt.alloc(), &THIRD_IS_LOST, *from), *want, *size),
         );
     }
+}
+
+// Whether the files are as the row says.
+fn has_files(media: &QuietMedia, row: &Row) -> bool {
+    for (name, bytes) in row.files {
+        if media.held(name) != *bytes {
+            return false;
+        }
+    }
+    true
+}
+
+#[test]
+fn takes_behind_one_that_meets_a_fault_are_whole(rt: HostRuntime) {
+    let right = match failed_from(rt.alloc(), &ONE_IS_CUT, 52) {
+        Some((bench, ended)) => ended == Ended::AtFinish && has_files(bench.media(), &ONE_IS_CUT),
+        None => false,
+    };
+    row_holds(&rt, 0, right);
 }
 
 // Whether the file has a front of the sound behind its head.
