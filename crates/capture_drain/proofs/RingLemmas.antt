@@ -41,3 +41,8 @@ received_since a m b found item x more is = received_more m b item x more is ∙
 pub has_taken : (a b : Receiver TakeBlock) (one : Bool) → one ≡ true → HasTaken a b one → (length b.received ≡ length a.received + 1) × (b.tails ≡ a.tails)
 has_taken a b true is taken = taken
 has_taken a b false is taken = absurd (true≢false (sym is))
+
+-- an item was taken since the end was told that there is more
+pub drains_taken : (a m b : Receiver TakeBlock) (item : TakeBlock) → GoesOnOut a m → FoundMore a m → GoesOnOut m b → b ≡ record m { received = m.received ++ item ∷ [] } → Drains a b
+drains_taken a m b item goes found further more = drains_then a m b goes (ap (λ (r : Receiver TakeBlock). r.tails) found.tells)
+    (record { goes_on = further; looks = inl (ap (λ (r : Receiver TakeBlock). r.tails) more) })

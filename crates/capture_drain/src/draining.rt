@@ -87,7 +87,7 @@ fn drain_all<M: Media>(
 impl CaptureDrain {
     /// Takes blocks out of the rings in their order, each until nothing more is there, and all together at most so many,
     /// and gives each to the file of its take. Answers how many it took. It takes no memory and waits for no other worker; its
-    /// writes may take long. A write fails at the block that was taken last: those before it stand whole, and of it a front may.
+    /// writes may take long. A write fails at the block that was taken last: those before it stand whole, and of it a part may.
     pub fn drain<M: Media>(
         &mut self,
         media: &mut M,

@@ -1,19 +1,19 @@
 -- What a block adds, part by part.
-use Rattle.std.proofs.Common.{◌≡◌, ℕ, ◌-◌, ◌*◌, List, ◌++◌, Option, refl, sym, ap, ap₂, ◌∙◌, subst, Result, Ok, Err, IsErr, [], append_assoc, append-nil, true, false, cond}
-use Rattle.std.specs.Prelude.{replicate}
+use Rattle.std.proofs.Common.{◌≡◌, ℕ, ◌-◌, ◌*◌, List, ◌++◌, Option, refl, ap₂, ◌∙◌, subst, Result, Ok, Err, IsErr, [], append_assoc}
+use Rattle.std.specs.Prelude.{replicate, if◌then◌else◌}
 use Rattle.ses_units.specs.Bits.{bits_of}
 use Rattle.ses_io.specs.Outside.{MediaOutside}
 use Rattle.sound_model.specs.Wav.{sound_bytes}
 use Rattle.session_model.specs.declared.session.Session.{Session}
 use Rattle.capture_flush.specs.declared.track.Place.{Place}
-use Rattle.capture_flush.specs.Blocks.{Block, is_kept}
-use Rattle.capture_flush.specs.Flushed.{added, due, head_added, next_index, block_bytes}
+use Rattle.capture_flush.specs.Blocks.{Block}
+use Rattle.capture_flush.specs.Flushed.{added, is_new, no_blocks, next_index, block_bytes}
 use Rattle.capture_flush.specs.Writes.{Adds}
-use Rattle.capture_flush.proofs.WriteLemmas.{Adds-none, Adds-then, Adds-as, Adds-stopped}
+use Rattle.capture_flush.proofs.WriteLemmas.{Adds-none, Adds-then, Adds-stopped}
 
 -- the three parts of what a block adds
 pub record Parts (s : Session) (t : ℕ) (last : Option Place) (b : Block) (head zeros sound : List ℕ) : Type 0 where
-  pub heads : head ≡ head_added last b.take
+  pub heads : head ≡ (if is_new last b.take then no_blocks s t else [])
   pub skips : zeros ≡ replicate ((b.index - next_index last b.take) * block_bytes s t) 0
   pub sounds : sound ≡ sound_bytes (bits_of s.bits) b.samples
 
@@ -38,30 +38,9 @@ pub added-in_zeros : {V E F : Type 0} (outside : MediaOutside V) (s : Session) (
 added-in_zeros outside s t last b q name head zeros sound old one two e r err is parts first second = named outside q name (added s t last b) old two r is
     (Adds-stopped outside q head zeros sound (added s t last b) old one two e r err (whole_is s t last b head zeros sound parts) first second)
 
--- and in the room for a header
+-- and in the header
 pub added-in_head : {V E F : Type 0} (outside : MediaOutside V) (s : Session) (t : ℕ) (last : Option Place) (b : Block) (q name head : List ℕ) (old one : V) (e : E) (r : Result (Unit {0}) F) → IsErr r →
-    q ≡ name → head ≡ head_added last b.take → Adds outside q head old one (Err e) → Adds outside name (added s t last b) old one r
+    q ≡ name → head ≡ (if is_new last b.take then no_blocks s t else []) → Adds outside q head old one (Err e) → Adds outside name (added s t last b) old one r
 added-in_head outside s t last b q name head old one e r err is heads first = named outside q name (added s t last b) old one r is
     (Adds-stopped outside q [] head (replicate ((b.index - next_index last b.take) * block_bytes s t) 0 ++ sound_bytes (bits_of s.bits) b.samples) (added s t last b) old old one e r err
     (whole_is s t last b head _ _ (record { heads = heads; skips = refl; sounds = refl })) (Adds-none outside q old) first)
-
--- ---- what a block that is passed adds
-
-due_kept : (s : Session) (t : ℕ) (last : Option Place) (b : Block) → is_kept s t last b ≡ true → added s t last b ≡ due s t last b
-due_kept s t last b kept = sym (ap (λ c. cond c (added s t last b) []) kept)
-
--- it is kept, and all of it was added
-pub due-whole : {V E : Type 0} (outside : MediaOutside V) (name : List ℕ) (s : Session) (t : ℕ) (last : Option Place) (b : Block) (old new : V) → is_kept s t last b ≡ true →
-    Adds {E = E} outside name (added s t last b) old new (Ok tt) → Adds {E = E} outside name (due s t last b) old new (Ok tt)
-due-whole outside name s t last b old new kept adds = Adds-as outside name (added s t last b) (due s t last b) old new (Ok tt) (due_kept s t last b kept) adds
-
--- or a part
-pub due-part : {V E F : Type 0} (outside : MediaOutside V) (name : List ℕ) (s : Session) (t : ℕ) (last : Option Place) (b : Block) (old new : V) (e : E) (r : Result (Unit {0}) F) → IsErr r → is_kept s t last b ≡ true →
-    Adds outside name (added s t last b) old new (Err e) → Adds outside name (due s t last b) old new r
-due-part outside name s t last b old new e r err kept adds =
-    Adds-stopped outside name [] (added s t last b) [] (due s t last b) old old new e r err (append-nil (added s t last b) ∙ due_kept s t last b kept) (Adds-none outside name old) adds
-
--- it is left out
-pub due-none : {V E : Type 0} (outside : MediaOutside V) (name : List ℕ) (s : Session) (t : ℕ) (last : Option Place) (b : Block) (now : V) → is_kept s t last b ≡ false →
-    Adds {E = E} outside name (due s t last b) now now (Ok tt)
-due-none outside name s t last b now left = Adds-as outside name [] (due s t last b) now now (Ok tt) (sym (ap (λ c. cond c (added s t last b) []) left)) (Adds-none outside name now)

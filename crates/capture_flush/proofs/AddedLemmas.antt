@@ -20,8 +20,9 @@ use Rattle.session_model.specs.Valid.{IsValid}
 use Rattle.session_model.specs.Formed.{channels_at}
 use Rattle.capture_flush.specs.declared.track.Place.{Place}
 use Rattle.capture_flush.specs.Blocks.{Block, is_kept, blocks_in, comes_after}
-use Rattle.capture_flush.specs.Flushed.{added, flushed_file, next_index, head_added, block_bytes, IsFront, flushed_sound, no_head}
+use Rattle.capture_flush.specs.Flushed.{added, block_bytes, flushed_file, flushed_sound, head_of, is_new, next_index, no_blocks, IsFront}
 use Rattle.capture_flush.specs.Writes.{with_more}
+use Rattle.capture_flush.proofs.HeaderLemmas.{behind_head}
 use Rattle.capture_flush.proofs.SilenceLemmas.{sound_long}
 
 -- ---- the item at a place
@@ -56,7 +57,7 @@ some_added s t last b valid lt is =
     let frames : 1 * 1 ≤ s.block * channels_at s t = mul-le-mul valid.formed.limits.block.least (some_channels s t valid lt) in
     let bytes : 1 * 1 ≤ length b.samples * (bits_of s.bits / 8) = mul-le-mul {n₁ = 1} (omega arith) (some_bits s.bits) in
     let gap : List ℕ = replicate ((b.index - next_index last b.take) * block_bytes s t) 0 in
-    omega (arith, bytes, sound_long s.bits b.samples, length-append gap (sound_bytes (bits_of s.bits) b.samples), length-append (head_added last b.take) (gap ++ sound_bytes (bits_of s.bits) b.samples))
+    omega (arith, bytes, sound_long s.bits b.samples, length-append gap (sound_bytes (bits_of s.bits) b.samples), length-append (if is_new last b.take then no_blocks s t else []) (gap ++ sound_bytes (bits_of s.bits) b.samples))
 
 pub more_is : (files : Files) (name bytes : List ℕ) → 0 < length bytes → with_more files name bytes ≡ with_file files name (content files name ++ bytes)
 more_is files name [] some = absurd (omega arith)
@@ -80,12 +81,12 @@ only_some old new name piece (inr some) q other = ap (λ files. files q) some.1.
 pub file_in_part : (s : Session) (t n : ℕ) (ks : List Block) (o : Option (List ℕ)) (whole : List ℕ) → o ≡ flushed_file s t n ks → IsFront (flushed_sound s t n ks) whole → IfSome o (λ bytes. IsFront (drop 44 bytes) whole)
 file_in_part s t n ks o whole same front = subst (λ (o : Option (List ℕ)). IfSome o (λ bytes. IsFront (drop 44 bytes) whole)) (sym same) (by (blocks_in n ks == 0))
   where
-    by : (b : Bool) → IfSome (if b then None else Some (no_head ++ flushed_sound s t n ks)) (λ bytes. IsFront (drop 44 bytes) whole)
+    by : (b : Bool) → IfSome (if b then None else Some (head_of s t (blocks_in n ks) ++ flushed_sound s t n ks)) (λ bytes. IsFront (drop 44 bytes) whole)
     by true = tt
-    by false = front
+    by false = subst (λ l. IsFront l whole) (sym (behind_head s t (blocks_in n ks) (flushed_sound s t n ks))) front
 
 pub all_is_front : (bytes : List ℕ) → IsFront bytes bytes
 all_is_front bytes = (length bytes, sym (take-length bytes))
 
 pub no_file : (s : Session) (t n : ℕ) (ks : List Block) → blocks_in n ks ≡ 0 → flushed_file s t n ks ≡ None
-no_file s t n ks none = ap (λ k. if k == 0 then None else Some (no_head ++ flushed_sound s t n ks)) none
+no_file s t n ks none = ap (λ k. if k == 0 then None else Some (head_of s t k ++ flushed_sound s t n ks)) none

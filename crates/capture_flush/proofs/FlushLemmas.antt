@@ -8,7 +8,7 @@ use Rattle.std.proofs.lemmas.Bool.{cases_eq, eq-eqb, ne_eqb}
 use Rattle.std.proofs.lemmas.Option.{slice_get_cases}
 use Rattle.std.proofs.lemmas.List.{length-set}
 use Rattle.ses_units.specs.Name.{is_name}
-use Rattle.ses_io.specs.Files.{Files, content, with_file, HasNameUnder, AppendsSomeTo}
+use Rattle.ses_io.specs.Files.{Files, content, with_file, HasNameUnder, OverwritesSome}
 use Rattle.ses_io.proofs.Files.{with_file-same}
 use Rattle.session_model.specs.declared.session.Session.{Session}
 use Rattle.session_model.specs.Valid.{IsValid}
@@ -18,13 +18,15 @@ use Rattle.audio_source.proofs.ByteLaws.{drop-of-take}
 use Rattle.capture_flush.specs.declared.track.TrackTakes.{TrackTakes}
 use Rattle.capture_flush.specs.Blocks.{Block, is_kept, kept, last_from, last_after, blocks_in, place_of}
 use Rattle.capture_flush.specs.Taking.{Taking, IsTakingOf, new_takes, at_first, last_of, after_block, IsTrackOf}
-use Rattle.capture_flush.specs.Flushed.{Tape, IsFlushed, IsFlushedInPart, with_block, added, flushed_file, IsFront, IsTakeName, kept_of, flushed_sound, no_head}
+use Rattle.capture_flush.specs.Flushed.{Tape, GivesInPart, IsFlushed, IsFlushedInPart, IsFront, IsTakeName, added, flushed_file, flushed_sound, head_of, kept_of, next_index, renewed, with_block, with_given}
 use Rattle.capture_flush.specs.Laws.{FlushedIsInPart, HasNamedTracks}
 use Rattle.capture_flush.specs.Writes.{with_more}
 use Rattle.capture_flush.proofs.SampleLemmas.{bytes_more, file_more, file_other, count_more, sound_front}
 use Rattle.capture_flush.proofs.KeptLemmas.{Follows, follows, kept_with, kept_without, last_with}
 use Rattle.capture_flush.proofs.NameLemmas.{names_apart, no_take_held}
-use Rattle.capture_flush.proofs.AddedLemmas.{set_here, set_there, some_added, more_is, OnlyAt, only_written, only_some, file_in_part, all_is_front, no_file}
+use Rattle.capture_flush.proofs.AddedLemmas.{set_here, set_there, some_added, more_is, OnlyAt, only_written, file_in_part, all_is_front, no_file}
+use Rattle.capture_flush.proofs.GiveLemmas.{only_part, part_renewed, renewed_is}
+use Rattle.capture_flush.proofs.HeaderLemmas.{behind_head, head_long}
 
 pub named_tracks : (s : Session) (f : Taking) → IsTakingOf s f → HasNamedTracks s
 named_tracks s f of t lt = elim ((slice_get_cases f.tracks t).1) [
@@ -134,13 +136,20 @@ module _ (tape : Tape) (f : Taking) (files files' : Files) (t : ℕ) (b : Block)
   new_kept : kept_of (with_block tape t b) t ≡ kept s t blocks ++ b ∷ []
   new_kept = ap (kept s t) (blocks_here tape t b) ∙ kept_with s t blocks b kept_is
 
-  -- the file with all that is added
-  whole : content files name ++ added s t (last_of f t) b ≡ no_head ++ sound
-  whole = ap₂ (λ held last. held ++ added s t last b) (ap (λ o. unwrap_or o []) (old.takes t b.take lt)) (old.last t lt) ∙ bytes_more s t blocks b grows
-      ∙ ap (λ ks. no_head ++ flushed_sound s t b.take ks) (sym new_kept)
+  -- of so many blocks its head told before
+  abbrev count : ℕ
+  count = next_index (last_of f t) b.take
 
-  new_file : flushed_file s t b.take (kept_of (with_block tape t b) t) ≡ Some (no_head ++ sound)
-  new_file = subst (λ ks. flushed_file s t b.take ks ≡ Some (no_head ++ flushed_sound s t b.take ks)) (sym new_kept) (file_more s t (kept s t blocks) b grows.next)
+  -- the file with all that is added
+  whole : content files name ++ added s t (last_of f t) b ≡ head_of s t count ++ sound
+  whole = ap₂ (λ held last. held ++ added s t last b) (ap (λ o. unwrap_or o []) (old.takes t b.take lt)) (old.last t lt) ∙ bytes_more s t blocks b grows
+      ∙ ap₂ (λ last ks. head_of s t (next_index last b.take) ++ flushed_sound s t b.take ks) (sym (old.last t lt)) (sym new_kept)
+
+  added_is : with_more files name (added s t (last_of f t) b) ≡ with_file files name (head_of s t count ++ sound)
+  added_is = more_is files name (added s t (last_of f t) b) (some_added s t (last_of f t) b of.valid lt is) ∙ ap (with_file files name) whole
+
+  new_file : flushed_file s t b.take (kept_of (with_block tape t b) t) ≡ Some (head_of s t (suc b.index) ++ sound)
+  new_file = subst (λ ks. flushed_file s t b.take ks ≡ Some (head_of s t (suc b.index) ++ flushed_sound s t b.take ks)) (sym new_kept) (file_more s t (kept s t blocks) b grows.next)
 
   abbrev IsOther : ℕ → ℕ → Type 0
   IsOther u n = u ≡ t → n ≡ b.take → ⊥
@@ -167,7 +176,7 @@ module _ (tape : Tape) (f : Taking) (files files' : Files) (t : ℕ) (b : Block)
   no_take : OnlyAt files files' name → (q : List ℕ) → ¬ (IsTakeName s q) → files' q ≡ tape.held q
   no_take only q not = only q (λ same. not (t, b.take, lt, same)) ∙ old.others q not
 
-  pub flushed_more : files' ≡ with_more files name (added s t (last_of f t) b) → IsFlushed (with_block tape t b) (after_block s f t b) files'
+  pub flushed_more : files' ≡ with_given s t (last_of f t) b files → IsFlushed (with_block tape t b) (after_block s f t b) files'
   flushed_more more = record {
     fresh = old.fresh;
     last = at_each tape t b (λ u bs. u < length s.tracks.items → last_of (after_block s f t b) u ≡ last_from s u None bs)
@@ -176,16 +185,16 @@ module _ (tape : Tape) (f : Taking) (files files' : Files) (t : ℕ) (b : Block)
     others = no_take only;
   }
     where
-      written : files' ≡ with_file files name (content files name ++ added s t (last_of f t) b)
-      written = more ∙ more_is files name (added s t (last_of f t) b) (some_added s t (last_of f t) b of.valid lt is)
+      written : files' ≡ with_file files name (head_of s t (suc b.index) ++ sound)
+      written = more ∙ ap (renewed s t name count (suc b.index)) added_is ∙ renewed_is s t name count (suc b.index) sound files
 
       only : OnlyAt files files' name
-      only q other = ap (λ fs. fs q) written ∙ only_written files name (content files name ++ added s t (last_of f t) b) q other
+      only q other = ap (λ fs. fs q) written ∙ only_written files name (head_of s t (suc b.index) ++ sound) q other
 
       here : files' name ≡ flushed_file s t b.take (kept_of (with_block tape t b) t)
-      here = ap (λ fs. fs name) written ∙ with_file-same files name (content files name ++ added s t (last_of f t) b) ∙ ap (λ l. Some l) whole ∙ sym new_file
+      here = ap (λ fs. fs name) written ∙ with_file-same files name (head_of s t (suc b.index) ++ sound) ∙ sym new_file
 
-  pub flushed_front : AppendsSomeTo files files' name (added s t (last_of f t) b) → IsFlushedInPart (with_block tape t b) files'
+  pub flushed_front : GivesInPart s t (last_of f t) b files files' → IsFlushedInPart (with_block tape t b) files'
   flushed_front some = record {
     fresh = old.fresh;
     takes = at_take (λ u n. IfSome (files' (take_name s u n)) (λ bytes. IsFront (drop 44 bytes) (flushed_sound s u n (kept_of (with_block tape t b) u)))) (here some)
@@ -197,14 +206,24 @@ module _ (tape : Tape) (f : Taking) (files files' : Files) (t : ℕ) (b : Block)
   }
     where
       only : OnlyAt files files' name
-      only = only_some files files' name (added s t (last_of f t) b) some
+      only = only_part s t (last_of f t) b files files' some
 
-      here : AppendsSomeTo files files' name (added s t (last_of f t) b) → IfSome (files' name) (λ bytes. IsFront (drop 44 bytes) sound)
-      here (inl same) = file_in_part s t b.take (kept s t blocks) (files' name) sound (ap (λ fs. fs name) same ∙ old.takes t b.take lt)
+      -- its sound, behind the head
+      behind : drop 44 (head_of s t count ++ sound) ≡ sound
+      behind = behind_head s t count sound
+
+      here : GivesInPart s t (last_of f t) b files files' → IfSome (files' name) (λ bytes. IsFront (drop 44 bytes) sound)
+      here (inl (inl same)) = file_in_part s t b.take (kept s t blocks) (files' name) sound (ap (λ fs. fs name) same ∙ old.takes t b.take lt)
           (subst (λ bs. IsFront (flushed_sound s t b.take (kept s t blocks)) (flushed_sound s t b.take (kept s t bs))) (sym (blocks_here tape t b)) (sound_front s t b.take blocks (b ∷ [])))
-      here (inr part) = let held = content files name in let piece = added s t (last_of f t) b in
-          subst (λ (o : Option (List ℕ)). IfSome o (λ bytes. IsFront (drop 44 bytes) sound)) (sym (ap (λ fs. fs name) part.1.files ∙ with_file-same files name (held ++ take part.0 piece)))
-          (length held + part.0 - 44, ap (drop 44) (sym (take-append-add held piece part.0) ∙ ap (take (length held + part.0)) whole) ∙ drop-of-take 44 (length held + part.0) (no_head ++ sound))
+      here (inl (inr part)) = let held = content files name in let piece = added s t (last_of f t) b in
+          subst (λ (o : Option (List ℕ)). IfSome o (λ bytes. IsFront (drop 44 bytes) sound)) (sym (ap (λ fs. fs name) part.1.files ∙ with_file-same files name (held ++ take part.0 piece))) (
+            length held + part.0 - 44,
+            ap (drop 44) (sym (take-append-add held piece part.0) ∙ ap (take (length held + part.0)) whole) ∙ drop-of-take 44 (length held + part.0) (head_of s t count ++ sound)
+                ∙ ap (take (length held + part.0 - 44)) behind,
+          )
+      here (inr part) = let there = part_renewed (head_of s t count ++ sound) (head_of s t (suc b.index)) files files' name (head_long s t (suc b.index))
+          (subst (λ fs. OverwritesSome fs files' name 0 (head_of s t (suc b.index))) added_is part) in
+          subst (λ (o : Option (List ℕ)). IfSome o (λ bytes. IsFront (drop 44 bytes) sound)) (sym there.1) (subst (λ l. IsFront l sound) (sym (there.2 ∙ behind)) (all_is_front sound))
 
 pub flushed_is_in_part : FlushedIsInPart
 flushed_is_in_part tape f files flushed = record {

@@ -6,8 +6,10 @@ pub mod CloseVectors
 pub mod CountedLemmas
 pub mod EarlyLemmas
 pub mod EndingLemmas
+pub mod EndsLemmas
 pub mod FinishLemmas
 pub mod FlushLemmas
+pub mod GiveLemmas
 pub mod HeaderLemmas
 pub mod KeepLemmas
 pub mod KeptLemmas
@@ -25,4 +27,5 @@ pub mod TakenLemmas
 pub mod TakingLemmas
 pub mod TimesLemmas
 pub mod WalkLemmas
+pub mod WholeLemmas
 pub mod WriteLemmas

@@ -1,6 +1,6 @@
 -- The samples that came of a take, and their bytes, when one more block is kept.
 use Rattle.std.proofs.Common.{inl, inr, take, length, subst, append_assoc, ◌≡◌, ℕ, zero, suc, ◌+◌, ◌-◌, ◌*◌, ◌/◌, ◌≤◌, ◌<◌, Bool, true, false, ◌&&◌, List, [], ◌∷◌, ◌++◌, Option, Some, None, refl, sym, ap, ap₂, ◌∙◌, append-nil, arith}
-use Rattle.std.specs.Prelude.{ℤ, pos, max, ◌==◌, if◌then◌else◌, flat_map, replicate, unwrap_or}
+use Rattle.std.specs.Prelude.{ℤ, pos, max, not, ◌==◌, if◌then◌else◌, flat_map, replicate, unwrap_or}
 use Rattle.std.specs.List.{range_with_len}
 use Rattle.std.proofs.Math.Dec.{eqb-suc-zero}
 use Rattle.std.proofs.Math.Seq.{take-append_seam}
@@ -13,7 +13,8 @@ use Rattle.session_model.specs.declared.session.Session.{Session}
 use Rattle.engine_model.specs.Takes.{silent_block}
 use Rattle.capture_flush.specs.declared.track.Place.{Place}
 use Rattle.capture_flush.specs.Blocks.{is_kept, last_from, Block, block_samples, kept, block_at, blocks_in}
-use Rattle.capture_flush.specs.Flushed.{IsFront, flushed_samples, flushed_sound, flushed_file, no_head, block_bytes, next_index, head_added, added}
+use Rattle.capture_flush.specs.Flushed.{IsFront, added, block_bytes, flushed_file, flushed_samples, flushed_sound, head_of, is_new, next_index, no_blocks}
+use Rattle.capture_flush.proofs.HeaderLemmas.{head_of_none}
 use Rattle.capture_flush.proofs.KeptLemmas.{follows, kept_with, kept_without, Follows, blocks_joined, block_before, block_behind, block_past}
 use Rattle.capture_flush.proofs.SilenceLemmas.{sound_joined, silent_sound}
 
@@ -52,7 +53,7 @@ samples_other s t n ks b other = ap (λ k. flat_map (piece s t n (ks ++ b ∷ []
     (λ i low lt. ap (λ o. unwrap_or o (silent_block s t)) (block_before n i ks b (ap (λ k. k && (b.index == i)) (ne_eqb b.take n other))))
 
 pub file_other : (s : Session) (t n : ℕ) (ks : List Block) (b : Block) → (b.take ≡ n → ⊥) → flushed_file s t n (ks ++ b ∷ []) ≡ flushed_file s t n ks
-file_other s t n ks b other = ap₂ (λ k samples. if k == 0 then None else Some (no_head ++ sound_bytes (bits_of s.bits) samples)) (count_other n ks b other) (samples_other s t n ks b other)
+file_other s t n ks b other = ap₂ (λ k samples. if k == 0 then None else Some (head_of s t k ++ sound_bytes (bits_of s.bits) samples)) (count_other n ks b other) (samples_other s t n ks b other)
 
 -- a block behind those that came: silence for those between, and its samples
 pub count_more : (ks : List Block) (b : Block) → blocks_in b.take ks ≤ b.index → blocks_in b.take (ks ++ b ∷ []) ≡ suc b.index
@@ -120,37 +121,40 @@ sound_more s t ks b next = ap (sound_bytes (bits_of s.bits)) (samples_more s t k
     grouped : (a b c : ℕ) → a * b * c ≡ a * (b * c)
     grouped a b c = grind arith
 
-head_is : (last : Option Place) (n : ℕ) → head_added last n ≡ (if next_index last n == 0 then no_head else [])
-head_is None n = refl
-head_is (Some p) n = by (p.take == n)
+new_is : (last : Option Place) (n : ℕ) → is_new last n ≡ (next_index last n == 0)
+new_is None n = refl
+new_is (Some p) n = by (p.take == n)
   where
-    by : (b : Bool) → (if b then [] else no_head) ≡ (if (if b then suc p.index else 0) == 0 then no_head else [])
-    by true = sym (ap (λ k. if k then no_head else []) (eqb-suc-zero p.index))
+    by : (b : Bool) → not b ≡ ((if b then suc p.index else 0) == 0)
+    by true = sym (eqb-suc-zero p.index)
     by false = refl
 
 -- the bytes of a take's file, none where it isn't there
 abbrev pub file_bytes : Session → ℕ → ℕ → List Block → List ℕ
 file_bytes s t n ks = unwrap_or (flushed_file s t n ks) []
 
-with_head : (count : ℕ) (sound more : List ℕ) → (count ≡ 0 → sound ≡ []) → unwrap_or (if count == 0 then None else Some (no_head ++ sound)) [] ++ ((if count == 0 then no_head else []) ++ more) ≡ no_head ++ (sound ++ more)
-with_head count sound more none = by (count == 0) refl
+with_head : (s : Session) (t count : ℕ) (sound more : List ℕ) → (count ≡ 0 → sound ≡ []) →
+    unwrap_or (if count == 0 then None else Some (head_of s t count ++ sound)) [] ++ ((if count == 0 then no_blocks s t else []) ++ more) ≡ head_of s t count ++ (sound ++ more)
+with_head s t count sound more none = by (count == 0) refl
   where
-    by : (b : Bool) → (count == 0) ≡ b → unwrap_or (if b then None else Some (no_head ++ sound)) [] ++ ((if b then no_head else []) ++ more) ≡ no_head ++ (sound ++ more)
-    by true is = ap (λ l. no_head ++ (l ++ more)) (sym (none (eqb-true count 0 is)))
-    by false is = append_assoc no_head sound more
+    by : (b : Bool) → (count == 0) ≡ b → unwrap_or (if b then None else Some (head_of s t count ++ sound)) [] ++ ((if b then no_blocks s t else []) ++ more) ≡ head_of s t count ++ (sound ++ more)
+    by true is = let zero_is : count ≡ 0 = eqb-true count 0 is in
+        ap₂ (λ head l. head ++ (l ++ more)) (sym (ap (head_of s t) zero_is ∙ head_of_none s t)) (sym (none zero_is))
+    by false is = append_assoc (head_of s t count) sound more
 
--- what is added makes the file that of the blocks with one more
+-- what is added makes the file that of the blocks with one more, its head still that of before
 pub bytes_more : (s : Session) (t : ℕ) (xs : List Block) (b : Block) → Follows s t xs b →
-    file_bytes s t b.take (kept s t xs) ++ added s t (last_from s t None xs) b ≡ no_head ++ flushed_sound s t b.take (kept s t xs ++ b ∷ [])
+    file_bytes s t b.take (kept s t xs) ++ added s t (last_from s t None xs) b ≡ head_of s t (next_index (last_from s t None xs) b.take) ++ flushed_sound s t b.take (kept s t xs ++ b ∷ [])
 bytes_more s t xs b follows = let ks = kept s t xs in let last = last_from s t None xs in
-    ap (λ head. file_bytes s t b.take ks ++ (head ++ block_sound s t (next_index last b.take) b)) (head_is last b.take)
-    ∙ ap (λ k. file_bytes s t b.take ks ++ ((if k == 0 then no_head else []) ++ block_sound s t k b)) (sym follows.count)
-    ∙ with_head (blocks_in b.take ks) (flushed_sound s t b.take ks) (block_sound s t (blocks_in b.take ks) b) (no_sound s t b.take ks)
-    ∙ ap (λ l. no_head ++ l) (sym (sound_more s t ks b follows.next))
+    ap (λ new. file_bytes s t b.take ks ++ ((if new then no_blocks s t else []) ++ block_sound s t (next_index last b.take) b)) (new_is last b.take)
+    ∙ ap (λ k. file_bytes s t b.take ks ++ ((if k == 0 then no_blocks s t else []) ++ block_sound s t k b)) (sym follows.count)
+    ∙ with_head s t (blocks_in b.take ks) (flushed_sound s t b.take ks) (block_sound s t (blocks_in b.take ks) b) (no_sound s t b.take ks)
+    ∙ ap₂ (λ k l. head_of s t k ++ l) follows.count (sym (sound_more s t ks b follows.next))
 
-pub file_more : (s : Session) (t : ℕ) (ks : List Block) (b : Block) → blocks_in b.take ks ≤ b.index → flushed_file s t b.take (ks ++ b ∷ []) ≡ Some (no_head ++ flushed_sound s t b.take (ks ++ b ∷ []))
-file_more s t ks b next = let all = no_head ++ flushed_sound s t b.take (ks ++ b ∷ []) in
-    ap (λ k. if k == 0 then None else Some all) (count_more ks b next) ∙ ap (λ k. if k then None else Some all) (eqb-suc-zero b.index)
+pub file_more : (s : Session) (t : ℕ) (ks : List Block) (b : Block) → blocks_in b.take ks ≤ b.index →
+    flushed_file s t b.take (ks ++ b ∷ []) ≡ Some (head_of s t (suc b.index) ++ flushed_sound s t b.take (ks ++ b ∷ []))
+file_more s t ks b next = let sound = flushed_sound s t b.take (ks ++ b ∷ []) in
+    ap (λ k. if k == 0 then None else Some (head_of s t k ++ sound)) (count_more ks b next) ∙ ap (λ k. if k then None else Some (head_of s t (suc b.index) ++ sound)) (eqb-suc-zero b.index)
 
 -- ---- what came before stands in front
 

@@ -6,31 +6,21 @@ use Rattle.std.proofs.lemmas.Bool.{cases_lt, eqb-true}
 use Rattle.std.proofs.lemmas.List.{length-take, take-take}
 use Rattle.std.proofs.Math.Seq.{take_all, take-append_seam}
 use Rattle.ses_units.specs.Bits.{bits_of}
-use Rattle.sound_model.specs.Wav.{Form, canon, header, sound_bytes}
+use Rattle.sound_model.specs.Wav.{canon, header, sound_bytes}
 use Rattle.session_model.specs.declared.session.Session.{Session}
 use Rattle.engine_model.specs.Journal.{Entry}
 use Rattle.engine_model.specs.Takes.{Input, take_file, silent_block, take_form, take_samples}
 use Rattle.capture_flush.specs.declared.run.Run.{Run}
 use Rattle.capture_flush.specs.Blocks.{Block, block_at, block_samples, blocks_in, taken_blocks}
 use Rattle.capture_flush.specs.Closing.{closed_file, ending}
-use Rattle.capture_flush.specs.Flushed.{IsFront, block_bytes, flushed_file, flushed_samples, flushed_sound, no_head}
+use Rattle.capture_flush.specs.Flushed.{IsFront, block_bytes, flushed_file, flushed_samples, flushed_sound, head_of, no_blocks}
+use Rattle.capture_flush.proofs.HeaderLemmas.{behind_head, behind_header}
 use Rattle.capture_flush.proofs.NoteLemmas.{CountsUp, notes_of}
 use Rattle.capture_flush.proofs.NamedRunLemmas.{IsRunOf}
 use Rattle.capture_flush.proofs.SilenceLemmas.{silent_sound, sound_joined, sound_long}
 use Rattle.capture_flush.proofs.TakeSoundLemmas.{flushed_first, take_long}
 
 -- ---- the parts of a file
-
-pub header_long : (form : Form) (bytes : ℕ) → length (header form bytes) ≡ 44
-unfolding header
-header_long form bytes = omega arith
-
-pub behind_header : (form : Form) (bytes : ℕ) (rest : List ℕ) → drop 44 (header form bytes ++ rest) ≡ rest
-unfolding header
-behind_header form bytes rest = refl
-
-pub behind_room : (rest : List ℕ) → drop 44 (no_head ++ rest) ≡ rest
-behind_room rest = refl
 
 -- the sound of a take, and the pad byte
 abbrev pub take_sound : Session → Input → ℕ → ℕ → List Entry → List ℕ
@@ -82,14 +72,19 @@ behind_ending s t run bs is = by (blocks_in run.take bs == 0) refl (ap (λ k. k 
     rest : List ℕ
     rest = replicate ((run.blocks - run.filled) * block_bytes s t) 0 ++ pad_of (run.blocks * block_bytes s t)
 
+    head : List ℕ
+    head = head_of s t (blocks_in run.take bs)
+
     nothing : blocks_in run.take bs ≡ 0 → flushed_sound s t run.take bs ≡ []
     nothing none = ap (λ k. sound_bytes (bits_of s.bits) (flat_map (λ i. unwrap_or (block_at run.take i bs) (silent_block s t)) (range_with_len 0 k))) none
 
     by : (b : Bool) → (blocks_in run.take bs == 0) ≡ b → (run.filled == 0) ≡ b →
-        drop 44 (unwrap_or (if b then None else Some (no_head ++ flushed_sound s t run.take bs)) [] ++ ((if run.filled == 0 then no_head else []) ++ rest)) ≡ flushed_sound s t run.take bs ++ rest
-    by true none empty = ap (λ c. drop 44 ((if c then no_head else []) ++ rest)) empty ∙ behind_room rest ∙ ap (λ l. l ++ rest) (sym (nothing (eqb-true (blocks_in run.take bs) 0 none)))
-    by false none empty = ap (λ c. drop 44 ((no_head ++ flushed_sound s t run.take bs) ++ ((if c then no_head else []) ++ rest))) empty
-        ∙ ap (drop 44) (append_assoc no_head (flushed_sound s t run.take bs) rest) ∙ behind_room (flushed_sound s t run.take bs ++ rest)
+        drop 44 (unwrap_or (if b then None else Some (head ++ flushed_sound s t run.take bs)) [] ++ ((if run.filled == 0 then no_blocks s t else []) ++ rest)) ≡ flushed_sound s t run.take bs ++ rest
+    by true none empty = ap (λ c. drop 44 ((if c then no_blocks s t else []) ++ rest)) empty ∙ behind_header (take_form s t) (0 * block_bytes s t) rest
+        ∙ ap (λ l. l ++ rest) (sym (nothing (eqb-true (blocks_in run.take bs) 0 none)))
+    by false none empty = ap (λ c. drop 44 ((head ++ flushed_sound s t run.take bs) ++ ((if c then no_blocks s t else []) ++ rest))) empty
+        ∙ ap (drop 44) (append_assoc head (flushed_sound s t run.take bs) rest)
+        ∙ behind_head s t (blocks_in run.take bs) (flushed_sound s t run.take bs ++ rest)
 
 pub closed_is_take : (s : Session) (input : Input) (t : ℕ) (journal : List Entry) (run : Run) → IsRunOf s input t journal run →
     closed_file s t run (flushed_bytes s t run.take (taken_blocks s input t journal)) ≡ take_file s input t run.take journal

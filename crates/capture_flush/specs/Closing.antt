@@ -1,13 +1,15 @@
 -- How the take files of a journal are closed, one after another (own).
-use Rattle.std.specs.Prelude.{◌≡◌, ℕ, zero, suc, ◌*◌, ◌-◌, ◌%◌, ◌==◌, ◌<◌, ◌≤◌, ◌⊎◌, if◌then◌else◌, List, [], ◌∷◌, ◌++◌, length, drop, replicate, Option, Some, None}
+use Rattle.std.specs.Prelude.{◌≡◌, ℕ, zero, suc, ◌+◌, ◌*◌, ◌-◌, ◌%◌, ◌^◌, ◌==◌, ◌<◌, ◌≤◌, min, Bool, true, false, ◌⊎◌, if◌then◌else◌, List, [], ◌∷◌, ◌++◌, length, map, drop, replicate, Option, Some, None}
 use Rattle.std.specs.Option.{option_map_or}
+use Rattle.ses_io.specs.Faults.{risen}
 use Rattle.ses_io.specs.Files.{Files, content, with_file}
+use Rattle.ses_io.specs.Outside.{MediaOutside}
 use Rattle.sound_model.specs.Wav.{header}
 use Rattle.session_model.specs.declared.session.Session.{Session}
 use Rattle.engine_model.specs.Journal.{Take, Off, Taken, Lost, Entry, note_of}
 use Rattle.engine_model.specs.Takes.{take_form, take_name}
 use Rattle.capture_flush.specs.declared.run.Run.{Run}
-use Rattle.capture_flush.specs.Flushed.{no_head, block_bytes, IsFront}
+use Rattle.capture_flush.specs.Flushed.{no_blocks, block_bytes, IsFront}
 
 -- ---- the takes of a track, as they follow one another in a journal
 
@@ -35,14 +37,14 @@ runs_of t journal = runs_from None t journal
 
 -- ---- one file
 
--- what is put behind the blocks that came: room for a header where none did, zeros for those lost at the end, and the pad byte
+-- what is put behind the blocks that came: a header where none did, zeros for those lost at the end, and the pad byte
 -- `size`: the bytes of a block
-abbrev pub ending_of : ℕ → Run → List ℕ
-ending_of size run = (if run.filled == 0 then no_head else [])
+abbrev pub ending_of : List ℕ → ℕ → Run → List ℕ
+ending_of none size run = (if run.filled == 0 then none else [])
     ++ (replicate ((run.blocks - run.filled) * size) 0 ++ replicate (run.blocks * size % 2) 0)
 
 abbrev pub ending : Session → ℕ → Run → List ℕ
-ending s t run = ending_of (block_bytes s t) run
+ending s t run = ending_of (no_blocks s t) (block_bytes s t) run
 
 -- the file, where it held these bytes
 abbrev pub closed_file : Session → ℕ → Run → List ℕ → List ℕ
@@ -51,32 +53,42 @@ closed_file s t run held = header (take_form s t) (run.blocks * block_bytes s t)
 abbrev pub closed : Session → ℕ → Run → Files → Files
 closed s t run files = let name = take_name s t run.take in with_file files name (closed_file s t run (content files name))
 
--- no file changed but that one, which has a front of its sound from byte 44 on
+-- no file changed but that one, which isn't shorter, and has a front of its sound from byte 44 on
 abbrev pub ClosesInPart : Session → ℕ → Run → Files → Files → Type 0
 ClosesInPart s t run old new = let name = take_name s t run.take in (new ≡ old)
-    ⊎ ((bytes : List ℕ) × (new ≡ with_file old name bytes) × IsFront (drop 44 bytes) (drop 44 (content old name ++ ending s t run)))
+    ⊎ ((bytes : List ℕ) × (new ≡ with_file old name bytes) × (length (content old name) ≤ length bytes) × IsFront (drop 44 bytes) (drop 44 (content old name ++ ending s t run)))
 
--- where blocks of a take came, its file has room for a header
+-- where blocks of a take came, its file has a header
 abbrev pub HasHead : Session → ℕ → Files → Run → Type 0
 HasHead s t files run = 0 < run.filled → 44 ≤ length (content files (take_name s t run.take))
 
 -- ---- all files
 
-abbrev pub closed_runs : Session → ℕ → List Run → Files → Files
-closed_runs s t [] files = files
-closed_runs s t (run ∷ runs) files = closed_runs s t runs (closed s t run files)
-
--- some were closed, and one in part
-abbrev pub ClosesSome : Session → ℕ → List Run → Files → Files → Type 0
-ClosesSome s t [] old new = new ≡ old
-ClosesSome s t (run ∷ runs) old new = ClosesInPart s t run old new ⊎ ClosesSome s t runs (closed s t run old) new
+-- these takes of track t, each by its track
+abbrev pub track_runs : ℕ → List Run → List (ℕ × Run)
+track_runs t runs = map (λ r. (t, r)) runs
 
 -- those of so many tracks from track t on
-abbrev pub closed_tracks : Session → List Entry → ℕ → ℕ → Files → Files
-closed_tracks s journal t zero files = files
-closed_tracks s journal t (suc more) files = closed_tracks s journal (suc t) more (closed_runs s t (runs_of t journal) files)
+abbrev pub all_runs : List Entry → ℕ → ℕ → List (ℕ × Run)
+all_runs journal t zero = []
+all_runs journal t (suc more) = track_runs t (runs_of t journal) ++ all_runs journal (suc t) more
 
-abbrev pub ClosesSomeTracks : Session → List Entry → ℕ → ℕ → Files → Files → Type 0
-ClosesSomeTracks s journal t zero old new = new ≡ old
-ClosesSomeTracks s journal t (suc more) old new = ClosesSome s t (runs_of t journal) old new
-    ⊎ ClosesSomeTracks s journal (suc t) more (closed_runs s t (runs_of t journal) old) new
+-- each of the takes was closed, but those of the list `cut`, each by its track and its number, in part
+abbrev pub ClosesBut : Session → List (ℕ × Run) → List (ℕ × ℕ) → Files → Files → Type 0
+ClosesBut s [] cut old new = (cut ≡ []) × (new ≡ old)
+ClosesBut s (x ∷ xs) cut old new = ClosesBut s xs cut (closed s x.0 x.1 old) new
+    ⊎ ((middle : Files) × (rest : List (ℕ × ℕ)) × (cut ≡ (x.0, x.1.take) ∷ rest) × ClosesInPart s x.0 x.1 old middle × ClosesBut s xs rest middle new)
+
+-- What closing takes leaves of a media, and whether a write failed.
+pub record Ends {V : Type 0} (outside : MediaOutside V) (s : Session) (xs : List (ℕ × Run)) (old new : V) (failed : Bool) : Type 0 where
+  -- each was closed, but these
+  pub cut : List (ℕ × ℕ)
+  pub files : outside.tells → ClosesBut s xs cut (outside.files old) (outside.files new)
+  -- for each of which a write failed; the count stands still at its end
+  pub many : min (outside.write_faults old + length cut) (2 ^ 64 - 1) ≤ outside.write_faults new
+  -- the count rose where one failed, and else there are none
+  pub later : outside.write_faults old ≤ outside.write_faults new
+  pub rose : failed ≡ true → risen (outside.write_faults old) ≤ outside.write_faults new
+  pub fine : failed ≡ false → (cut ≡ []) × (outside.write_faults new ≡ outside.write_faults old)
+  -- no read failed
+  pub reads : outside.read_faults new ≡ outside.read_faults old

@@ -1,5 +1,5 @@
 -- What take files hold once they are finished: the takes of a journal, whole (own). Takes count from 1.
-use Rattle.std.specs.Prelude.{◌≡◌, ℕ, ◌<◌, Bool, true, ◌&&◌, ◌==◌, nat_lt, List, [], ◌∷◌, length, drop, reverse, Some, IfSome, All}
+use Rattle.std.specs.Prelude.{◌≡◌, ℕ, ◌+◌, ◌-◌, ◌^◌, ◌<◌, ◌≤◌, min, Bool, true, false, ◌&&◌, ◌==◌, nat_lt, List, [], ◌∷◌, length, drop, reverse, Some, IfSome, All}
 use Rattle.std.specs.List.{list_any}
 use Rattle.ses_io.specs.Files.{Files}
 use Rattle.session_model.specs.declared.session.Session.{Session}
@@ -58,3 +58,16 @@ pub record AreTakesInPart (run : Recorded) (journal : List Entry) (files : Files
   pub takes : (t n : ℕ) → t < length run.session.tracks.items → names_take t n journal ≡ true →
       IfSome (files (take_name run.session t n)) (λ bytes. IsFront (drop 44 bytes) (drop 44 (take_file run.session run.input t n journal)))
   pub others : (q : List ℕ) → ¬ (IsNamed run.session journal q) → files q ≡ run.held q
+
+-- the take stands in a list of takes, each by its track and its number
+abbrev pub is_among : ℕ → ℕ → List (ℕ × ℕ) → Bool
+is_among t n takes = list_any (λ c. c.0 == t && c.1 == n) takes
+
+-- Each take that the journal names is whole, but for no more than writes failed.
+pub record AreWholeBut (run : Recorded) (journal : List Entry) (before after : ℕ) (files : Files) : Type 0 where
+  -- these, each by its track and its number
+  pub cut : List (ℕ × ℕ)
+  -- no more of them than the count of failed writes rose by; it stands still at its end
+  pub many : min (before + length cut) (2 ^ 64 - 1) ≤ after
+  pub whole : (t n : ℕ) → t < length run.session.tracks.items → names_take t n journal ≡ true → is_among t n cut ≡ false →
+      files (take_name run.session t n) ≡ Some (take_file run.session run.input t n journal)

@@ -1,15 +1,39 @@
--- What take files hold while blocks come: room for a header, the blocks in their order, and zeros for those that were skipped (own).
-use Rattle.std.specs.Prelude.{◌≡◌, ℕ, ◌*◌, ◌<◌, ◌/◌, ◌-◌, ◌==◌, suc, if◌then◌else◌, ℤ, List, [], ◌∷◌, ◌++◌, take, drop, replicate, flat_map, unwrap_or, Option, Some, None, IfSome, codes}
+-- What take files hold while blocks come: a header, the blocks in their order, and zeros for those that were skipped (own).
+use Rattle.std.specs.Prelude.{◌≡◌, ℕ, ◌*◌, ◌<◌, ◌/◌, ◌-◌, ◌==◌, nat_lt, min, max, suc, Bool, true, not, if◌then◌else◌, ℤ, List, [], ◌∷◌, ◌++◌, take, drop, replicate, flat_map, unwrap_or, Option, Some, None, IfSome, codes, Result, OnOk, OnErr, ◌⊎◌}
 use Rattle.std.specs.List.{range_with_len}
 use Rattle.ses_units.specs.Bits.{bits_of}
-use Rattle.ses_io.specs.Files.{Files, HasNameUnder}
-use Rattle.sound_model.specs.Wav.{sound_bytes}
+use Rattle.ses_io.specs.Files.{Files, HasNameUnder, content, with_file, overwritten, AppendsSomeTo, OverwritesSome}
+use Rattle.ses_io.specs.Outside.{MediaOutside, WriteCause}
+use Rattle.sound_model.specs.Wav.{header, sound_bytes}
 use Rattle.session_model.specs.declared.session.Session.{Session}
-use Rattle.engine_model.specs.Takes.{silent_block, take_name}
+use Rattle.engine_model.specs.Takes.{silent_block, take_form, take_name}
 use Rattle.capture_flush.specs.declared.track.Place.{Place}
 use Rattle.capture_flush.specs.Blocks.{Block, block_samples, block_at, blocks_in, is_kept, kept, last_from}
 use Rattle.capture_flush.specs.Taking.{Taking, last_of}
+use Rattle.capture_flush.specs.Writes.{with_more}
 use Rattle.std.specs.Prelude.{length}
+
+-- ---- the head of a file
+
+-- the bytes of a block of track t
+abbrev pub block_bytes : Session → ℕ → ℕ
+block_bytes s t = block_samples s t * (bits_of s.bits / 8)
+
+-- the blocks of about a second
+abbrev pub second_blocks : Session → ℕ
+second_blocks s = max 1 (s.rate / s.block)
+
+-- Of how many blocks the head tells where so many stand: of those of whole seconds, and of one at least where one stands.
+-- The sizes in a header have room for 100,000 blocks. Where a block is shorter than a head, it tells of one at most.
+abbrev pub stated_of : Session → ℕ → ℕ → ℕ
+stated_of s t few = if nat_lt (block_bytes s t) 44 then min few 1 else min few (max 1 (few / second_blocks s * second_blocks s))
+
+abbrev pub stated : Session → ℕ → ℕ → ℕ
+stated s t blocks = stated_of s t (min blocks 100000)
+
+-- and the head itself
+unfoldable pub head_of : Session → ℕ → ℕ → List ℕ
+head_of s t blocks = header (take_form s t) (stated s t blocks * block_bytes s t)
 
 -- ---- one take
 
@@ -21,13 +45,9 @@ flushed_samples s t n blocks = flat_map (λ i. unwrap_or (block_at n i blocks) (
 abbrev pub flushed_sound : Session → ℕ → ℕ → List Block → List ℕ
 flushed_sound s t n blocks = sound_bytes (bits_of s.bits) (flushed_samples s t n blocks)
 
--- room for the header
-abbrev pub no_head : List ℕ
-no_head = replicate 44 0
-
 -- its file, of which there is none before its first block came
 abbrev pub flushed_file : Session → ℕ → ℕ → List Block → Option (List ℕ)
-flushed_file s t n blocks = if blocks_in n blocks == 0 then None else Some (no_head ++ flushed_sound s t n blocks)
+flushed_file s t n blocks = if blocks_in n blocks == 0 then None else Some (head_of s t (blocks_in n blocks) ++ flushed_sound s t n blocks)
 
 -- ---- all files
 
@@ -74,24 +94,48 @@ pub record IsFlushedInPart (tape : Tape) (files : Files) : Type 0 where
 
 -- ---- what a block adds to its file
 
--- the bytes of a block of track t
-abbrev pub block_bytes : Session → ℕ → ℕ
-block_bytes s t = block_samples s t * (bits_of s.bits / 8)
-
--- the next index of a take, where this block was kept last
+-- the next index of a take, where this block was kept last: so many blocks stand in its file
 abbrev pub next_index : Option Place → ℕ → ℕ
 next_index None n = 0
 next_index (Some last) n = if last.take == n then suc last.index else 0
 
--- room for a header where the take is new
-abbrev pub head_added : Option Place → ℕ → List ℕ
-head_added None n = no_head
-head_added (Some last) n = if last.take == n then [] else no_head
+-- the take is new
+abbrev pub is_new : Option Place → ℕ → Bool
+is_new None n = true
+is_new (Some last) n = not (last.take == n)
 
--- what a block that is kept adds to the file of its take
+-- the header of no blocks
+abbrev pub no_blocks : Session → ℕ → List ℕ
+no_blocks s t = header (take_form s t) (0 * block_bytes s t)
+
+-- what a block that is kept adds to the file of its take: the header of no blocks where the take is new, zeros for the blocks that were skipped, and its samples
 abbrev pub added : Session → ℕ → Option Place → Block → List ℕ
-added s t last b = head_added last b.take ++ (replicate ((b.index - next_index last b.take) * block_bytes s t) 0 ++ sound_bytes (bits_of s.bits) b.samples)
+added s t last b = (if is_new last b.take then no_blocks s t else [])
+    ++ (replicate ((b.index - next_index last b.take) * block_bytes s t) 0 ++ sound_bytes (bits_of s.bits) b.samples)
 
--- what a block that is passed adds to it: nothing where it is left out
-abbrev pub due : Session → ℕ → Option Place → Block → List ℕ
-due s t last b = if is_kept s t last b then added s t last b else []
+-- the files with the head of one of them over its front, where it tells of other blocks than before
+abbrev pub renewed : Session → ℕ → List ℕ → ℕ → ℕ → Files → Files
+renewed s t name before after files = if stated s t before == stated s t after then files
+    else with_file files name (overwritten (content files name) 0 (head_of s t after))
+
+-- the files once a block was given: it was added to the file of its take, and the head renewed
+abbrev pub with_given : Session → ℕ → Option Place → Block → Files → Files
+with_given s t last b files = let name = take_name s t b.take in
+    renewed s t name (next_index last b.take) (suc b.index) (with_more files name (added s t last b))
+
+-- they changed in part: some of it was added, or all of it and some of the head written
+abbrev pub GivesInPart : Session → ℕ → Option Place → Block → Files → Files → Type 0
+GivesInPart s t last b old new = let name = take_name s t b.take in AppendsSomeTo old new name (added s t last b)
+    ⊎ OverwritesSome (with_more old name (added s t last b)) new name 0 (head_of s t (suc b.index))
+
+-- What a block that is passed does to a media.
+pub record Gives {V E : Type 0} (outside : MediaOutside V) (s : Session) (t : ℕ) (last : Option Place) (b : Block) (old new : V) (result : Result (Unit {0}) E) : Type 0 where
+  -- it is given where it is kept
+  pub all : outside.tells → OnOk result (outside.files new ≡ (if is_kept s t last b then with_given s t last b (outside.files old) else outside.files old))
+  -- and a part of it after a fault, which comes only where it is kept
+  pub part : outside.tells → OnErr result (GivesInPart s t last b (outside.files old) (outside.files new))
+  pub kept : OnErr result (is_kept s t last b ≡ true)
+  -- and only where the count rose
+  pub cause : WriteCause outside old new result
+  -- no read failed
+  pub reads : outside.read_faults new ≡ outside.read_faults old

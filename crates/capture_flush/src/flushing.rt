@@ -1,12 +1,12 @@
 //! Blocks that come: each goes to the end of the file of its take, behind zeros for those that were skipped.
-ghost use Rattle.std.specs.Prelude.{◌≡◌, ◌<◌, ◌≤◌, ◌*◌, ◌-◌, ◌/◌, ◌++◌, ◌∷◌, [], length, replicate, Some, if◌then◌else◌, false, IsOk, OnOk, OnErr};
+ghost use Rattle.std.specs.Prelude.{◌≡◌, ◌<◌, ◌≤◌, ◌*◌, length, Some, true, false, IsOk, OnOk, OnErr};
 ghost use Rattle.ses_units.specs.Bits.{bits_of};
 ghost use Rattle.sound_model.specs.Wav.{sound_bytes};
 ghost use Rattle.session_model.specs.declared.session.Session.{Session as Opened};
 ghost use Rattle.engine_model.specs.Changes.{changed_at};
 ghost use Rattle.engine_model.specs.Takes.{take_name};
 ghost use Rattle.capture_flush.specs.Blocks.{block_of, block_samples, is_kept};
-ghost use Rattle.capture_flush.specs.Flushed.{Tape, with_block, IsFlushed, IsFlushedInPart, block_bytes, added, due, head_added, next_index};
+ghost use Rattle.capture_flush.specs.Flushed.{Tape, with_block, IsFlushed, IsFlushedInPart, Gives, added, is_new, next_index};
 ghost use Rattle.capture_flush.specs.Taking.{IsTakingOf, last_of, after_block};
 ghost use Rattle.capture_flush.specs.Writes.{Adds};
 
@@ -21,7 +21,7 @@ use wav_codec::encode;
 
 // Whether the file of this take is new, where a block was given last.
 fn is_new(last: Option<Place>, take: u32) -> bool
-    ensures { head_added last take ≡ if result then replicate 44 0 else [] }
+    ensures { result ≡ is_new last take }
 {
     match last {
         Some(last) => last.take != take,
@@ -107,7 +107,8 @@ impl TakeFiles {
         let name = self.file_name(track, b.take);
         let name = name.as_str();
         let last = self.last(track);
-        begin(media, name, is_new(last, b.take))?;
+        let none = self.header(track, 0);
+        begin(media, name, &none, is_new(last, b.take))?;
         let skipped = u64::from(b.index).saturating_sub(next_index(last, b.take));
         let size = self.block_size(track);
         self.add_zeros(media, name, size, skipped)?;
@@ -115,8 +116,24 @@ impl TakeFiles {
         append_sound(media, name, b.samples.as_slice(), self.bits, bytes)
     }
 
-    /// Adds the block to the end of the file of its take, which a new take begins with 44 zeros for its header; blocks
-    /// that were skipped are zeros before it. A block that isn't one block of the track, or doesn't come after its last,
+    // Gives the block to the file of its take: adds it, and then renews the head.
+    fn give<M: Media>(&mut self, media: &mut M, track: u32, b: &TakeBlock) -> Result<(), WriteFault>
+        ghost s: { Opened }
+        requires of { IsTakingOf s self.old }
+        requires track { track < length s.tracks.items }
+        requires kept { is_kept s track (last_of self.old track) (block_of b.now) ≡ true }
+        ensures gives { Gives M.outside s track (last_of self.old track) (block_of b.now)
+            media.old media.new result }
+        ensures same { self.new ≡ self.old }
+    {
+        let before = next_index(self.last(track), b.take);
+        self.add(media, track, b)?;
+        self.renew(media, track, b.take, before, u64::from(b.index) + 1)
+    }
+
+    /// Adds the block to the end of the file of its take, which a new take begins with the header of no blocks; blocks
+    /// that were skipped are zeros before it. Then the head is written anew, after a new take's first block and after each
+    /// second: at no time it tells of more blocks than stand in the file. A block that isn't one block of the track, or doesn't come after its last,
     /// is left out, and nothing changes. Tracks count from 0. After a WriteFault a front of it is there, and the block
     /// isn't noted: a block that is passed then stands behind that front, so none should be.
     pub fn block<M: Media>(
@@ -140,15 +157,14 @@ impl TakeFiles {
             (M.outside.files media.new)) }
         ensures left_out { is_kept tape.session track (last_of self.old track) (block_of b.now)
             ≡ false → (IsOk result) × (media.new ≡ media.old) }
-        ensures adds { Adds M.outside (take_name tape.session track b.now.take)
-            (due tape.session track (last_of self.old track) (block_of b.now))
-            media.old media.new result }
+        ensures gives { Gives M.outside tape.session track (last_of self.old track)
+            (block_of b.now) media.old media.new result }
     {
         if !self.keeps(track, b) {
             return Ok(());
         }
         let place = Place::new(b.take, b.index);
-        self.add(media, track, b)?;
+        self.give(media, track, b)?;
         keep(&mut self.tracks, track, place);
         Ok(())
     }

@@ -2,7 +2,6 @@
 ghost use Rattle.std.specs.Prelude.{◌≡◌, ◌*◌, ◌%◌, ◌<◌, [], length, if◌then◌else◌, replicate, OnOk, OnErr};
 ghost use Rattle.ses_io.specs.Files.{content, with_file, overwritten, HasRange, OverwritesSome};
 ghost use Rattle.ses_io.specs.Outside.{WriteCause};
-ghost use Rattle.capture_flush.specs.Flushed.{no_head};
 ghost use Rattle.capture_flush.specs.Writes.{Adds};
 
 use crate::fault::WriteFault;
@@ -43,15 +42,17 @@ pub(crate) fn append_repeated<M: Media>(
     Ok(())
 }
 
-// The bytes before the sound of a file whose header isn't written yet.
-const NO_HEAD: [u8; 44] = [0; 44];
-
-/// Makes room for a header at the end of a file that is new.
-pub(crate) fn begin<M: Media>(media: &mut M, name: &str, new: bool) -> Result<(), WriteFault>
-    ensures { Adds M.outside name.now (if new then no_head else []) media.old media.new result }
+/// Begins a file that is new with a head.
+pub(crate) fn begin<M: Media>(
+    media: &mut M,
+    name: &str,
+    head: &[u8],
+    new: bool,
+) -> Result<(), WriteFault>
+    ensures { Adds M.outside name.now (if new then head.now else []) media.old media.new result }
 {
     if new {
-        return append_all(media, name, &NO_HEAD);
+        return append_all(media, name, head);
     }
     Ok(())
 }

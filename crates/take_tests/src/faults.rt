@@ -1,7 +1,7 @@
 //! Calls of the media that fail while the take of a lost block is written, one in each run.
 use crate::bench::{Ended, TakeBench, row_holds};
 use crate::media::QuietMedia;
-use crate::takes::THIRD_IS_LOST;
+use crate::takes::{ONE_IS_CUT, Row, THIRD_IS_LOST};
 use ses_io::MemMedia;
 use std::alloc::Global;
 
@@ -10,17 +10,19 @@ const NAME: &str = "take-t-1.wav";
 // The sound of the whole take: 1 to 8, and four zeros.
 const SOUND: &[u8] = b"\x01\0\x02\0\x03\0\x04\0\x05\0\x06\0\x07\0\x08\0\0\0\0\0\0\0\0\0";
 
-// A media that takes each piece whole is called five times: for the room of the header, the first block, the second one,
-// and at the end the zeros of the third one and the header. The call that fails, where, and the bytes that it leaves.
-const CALLS: [(u64, Ended, Option<usize>); 5] = [
+// A media that takes each piece whole is called six times: for the head of no blocks, the first block, the head of one,
+// the second block, and at the end the zeros of the third one and the header. The blocks are shorter than a head, which tells
+// of one of them until then. The call that fails, where, and the bytes that it leaves.
+const CALLS: [(u64, Ended, Option<usize>); 6] = [
     (1, Ended::AtBlock(0), None),
     (2, Ended::AtBlock(0), Some(44)),
-    (3, Ended::AtBlock(1), Some(52)),
-    (4, Ended::AtFinish, Some(60)),
-    (5, Ended::AtFinish, Some(68)),
+    (3, Ended::AtBlock(0), Some(52)),
+    (4, Ended::AtBlock(1), Some(52)),
+    (5, Ended::AtFinish, Some(60)),
+    (6, Ended::AtFinish, Some(68)),
 ];
 
-// Writes to the take fail from these places on; that of the header is at place 0.
+// Writes to the take fail from these places on; those over its head are at place 0.
 const PLACES: [(u64, Ended, Option<usize>); 5] = [
     (0, Ended::AtBlock(0), None),
     (44, Ended::AtBlock(0), Some(44)),
@@ -29,14 +31,14 @@ const PLACES: [(u64, Ended, Option<usize>); 5] = [
     (68, Ended::Whole, Some(68)),
 ];
 
-// The bytes that a media takes at once, and how often it is then called. Pieces of 44, 8, 8, 8 and 44 bytes are 112 calls
-// byte by byte, and 9 + 2 + 2 + 2 + 9 by five bytes.
-const PIECES: [(usize, u64); 3] = [(usize::MAX, 5), (5, 24), (1, 112)];
+// The bytes that a media takes at once, and how often it is then called. Pieces of 44, 8, 44, 8, 8 and 44 bytes are 156
+// calls byte by byte, and 9 + 2 + 9 + 2 + 2 + 9 by five bytes.
+const PIECES: [(usize, u64); 3] = [(usize::MAX, 6), (5, 33), (1, 156)];
 
-// The run over a media, and how it ended.
-fn ended(alloc: Global, media: QuietMedia) -> Option<(TakeBench<QuietMedia>, Ended)> {
-    let mut bench = TakeBench::new(alloc, THIRD_IS_LOST.run.session, media)?;
-    let ended = bench.carry_out(alloc, &THIRD_IS_LOST.run)?;
+// The run of a row over a media, and how it ended.
+fn ended(alloc: Global, row: &Row, media: QuietMedia) -> Option<(TakeBench<QuietMedia>, Ended)> {
+    let mut bench = TakeBench::new(alloc, row.run.session, media)?;
+    let ended = bench.carry_out(alloc, &row.run)?;
     Some((bench, ended))
 }
 
@@ -44,14 +46,14 @@ fn ended(alloc: Global, media: QuietMedia) -> Option<(TakeBench<QuietMedia>, End
 fn failed(alloc: Global, n: u64, most: usize) -> Option<(TakeBench<QuietMedia>, Ended)> {
     let mut files = MemMedia::new(alloc);
     files.fail_call(n).ok()?;
-    ended(alloc, QuietMedia::new(files, most))
+    ended(alloc, &THIRD_IS_LOST, QuietMedia::new(files, most))
 }
 
 // Over one whose writes to the take fail from a place on.
-fn failed_from(alloc: Global, from: u64) -> Option<(TakeBench<QuietMedia>, Ended)> {
+fn failed_from(alloc: Global, row: &Row, from: u64) -> Option<(TakeBench<QuietMedia>, Ended)> {
     let mut files = MemMedia::new(alloc);
     files.fail_writes(NAME, from).ok()?;
-    ended(alloc, QuietMedia::new(files, usize::MAX))
+    ended(alloc, row, QuietMedia::new(files, usize::MAX))
 }
 
 // Whether a run ended so, and its file has so many bytes.
@@ -76,12 +78,31 @@ fn a_file_that_takes_no_more_bytes_is_a_fault(rt: HostRuntime) {
         row_holds(
             &rt,
             at,
-            is_ended(failed_from(rt.alloc(), *from), *want, *size),
+            is_ended(failed_from(rt.alloc(), &THIRD_IS_LOST, *from), *want, *size),
         );
     }
 }
 
-// Whether the file has a front of the sound behind the room for the header.
+// Whether the files are as the row says.
+fn has_files(media: &QuietMedia, row: &Row) -> bool {
+    for (name, bytes) in row.files {
+        if media.held(name) != *bytes {
+            return false;
+        }
+    }
+    true
+}
+
+#[test]
+fn takes_behind_one_that_meets_a_fault_are_whole(rt: HostRuntime) {
+    let right = match failed_from(rt.alloc(), &ONE_IS_CUT, 52) {
+        Some((bench, ended)) => ended == Ended::AtFinish && has_files(bench.media(), &ONE_IS_CUT),
+        None => false,
+    };
+    row_holds(&rt, 0, right);
+}
+
+// Whether the file has a front of the sound behind its head.
 fn has_front(media: &QuietMedia) -> bool {
     match media.held(NAME) {
         Some(held) => SOUND.starts_with(held.get(44..).unwrap_or(&[])),

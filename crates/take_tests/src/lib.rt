@@ -8,6 +8,8 @@ mod counted;
 #[cfg(test)]
 mod faults;
 #[cfg(test)]
+mod heads;
+#[cfg(test)]
 mod left_out;
 #[cfg(test)]
 mod media;

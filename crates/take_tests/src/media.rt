@@ -85,10 +85,11 @@ impl QuietMedia {
         }
     }
 
-    /// Whether a file holds room for a header, and then these bytes.
-    pub(crate) fn is_begun(&self, name: &str, sound: &[u8]) -> bool {
+    /// Whether a file holds this head, and then these bytes.
+    pub(crate) fn is_begun(&self, name: &str, head: &[u8], sound: &[u8]) -> bool {
         match self.held(name) {
-            Some(held) => held.starts_with(&[0; 44]) && held.get(44..) == Some(sound),
+            Some(held) => held.get(..head.len()) == Some(head)
+                && held.get(head.len()..) == Some(sound),
             None => false,
         }
     }

@@ -68,3 +68,19 @@ name = "u"
 channels = 2
 input = 1
 "#;
+
+/// One track of one channel, 16 bits, two blocks a second.
+pub(crate) const HALVES: &str = r#"[session]
+version = 1
+rate = 8000
+bits = 16
+channels = 1
+block = 4000
+depth = 2
+takes = "take"
+
+[[track]]
+name = "t"
+channels = 1
+input = 0
+"#;

@@ -3,8 +3,8 @@ mod rows;
 
 use crate::bench::{Ended, TakeBench, row_holds};
 use crate::media::QuietMedia;
-pub(crate) use rows::THIRD_IS_LOST;
-use rows::{ROWS, Row};
+use rows::ROWS;
+pub(crate) use rows::{ONE_IS_CUT, Row, THIRD_IS_LOST};
 use ses_io::MemMedia;
 use std::alloc::Global;
 

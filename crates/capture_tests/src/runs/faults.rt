@@ -5,8 +5,12 @@ use crate::sessions::{DEPTH_2, DEPTH_8, L, SOURCE_L, TRACK_T, TWO};
 use crate::steps::Step;
 use butler::{ButlerFault, Turn};
 
-// The room for a header.
-const ROOM: &[u8] = &[0; 44];
+// The heads of no block, and of one.
+const NONE: &[u8] =
+    b"RIFF\x24\0\0\0WAVEfmt \x10\0\0\0\x01\0\x01\0\x80\xbb\0\0\0\x77\x01\0\x02\0\x10\0data\x00\0\0\0";
+
+const ONE: &[u8] =
+    b"RIFF\x28\0\0\0WAVEfmt \x10\0\0\0\x01\0\x01\0\x80\xbb\0\0\0\x77\x01\0\x02\0\x10\0data\x04\0\0\0";
 
 // The first two blocks are silent.
 const LATE: &[u8] = b"
@@ -46,7 +50,7 @@ pub(crate) const RUNS: &[Run] = &[
         ],
         left: &[Left {
             name: "take-t-1.wav",
-            parts: Some(&[ROOM]),
+            parts: Some(&[NONE]),
         }],
     },
     // after a read that fails nothing is sent, and what is recorded is flushed
@@ -73,7 +77,7 @@ pub(crate) const RUNS: &[Run] = &[
         ],
         left: &[Left {
             name: "take-t-1.wav",
-            parts: Some(&[ROOM, b"\x01\0\x02\0"]),
+            parts: Some(&[ONE, b"\x01\0\x02\0"]),
         }],
     },
 ];

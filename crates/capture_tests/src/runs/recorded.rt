@@ -1,12 +1,13 @@
-//! Blocks that are recorded, and the files that they go into: room for a header, and then samples of 16 bits, low byte first.
+//! Blocks that are recorded, and the files that they go into: a head, and then samples of 16 bits, low byte first.
 use super::{Left, Run};
 use crate::bench::Fails;
 use crate::sessions::{DEPTH_8, TRACK_T, TWO};
 use crate::steps::Step;
 use butler::Turn;
 
-// The room for a header.
-const ROOM: &[u8] = &[0; 44];
+// The head of one block; the blocks are shorter than a head, which tells of no more.
+const HEAD: &[u8] =
+    b"RIFF\x28\0\0\0WAVEfmt \x10\0\0\0\x01\0\x01\0\x80\xbb\0\0\0\x77\x01\0\x02\0\x10\0data\x04\0\0\0";
 
 pub(crate) const RUNS: &[Run] = &[
     // a turn of one item flushes one block and sends nothing
@@ -28,7 +29,7 @@ pub(crate) const RUNS: &[Run] = &[
         left: &[
             Left {
                 name: "take-t-1.wav",
-                parts: Some(&[ROOM, b"\x01\0\x02\0"]),
+                parts: Some(&[HEAD, b"\x01\0\x02\0"]),
             },
             Left {
                 name: "take-t-2.wav",
@@ -59,11 +60,11 @@ pub(crate) const RUNS: &[Run] = &[
         left: &[
             Left {
                 name: "take-t-1.wav",
-                parts: Some(&[ROOM, b"\x01\0\x02\0\0\0\0\0\x05\0\x06\0"]),
+                parts: Some(&[HEAD, b"\x01\0\x02\0\0\0\0\0\x05\0\x06\0"]),
             },
             Left {
                 name: "take-t-2.wav",
-                parts: Some(&[ROOM, b"\x09\0\x0a\0"]),
+                parts: Some(&[HEAD, b"\x09\0\x0a\0"]),
             },
         ],
     },
@@ -88,7 +89,7 @@ pub(crate) const RUNS: &[Run] = &[
         ],
         left: &[Left {
             name: "take-t-1.wav",
-            parts: Some(&[ROOM, b"\x01\0\xff\xff"]),
+            parts: Some(&[HEAD, b"\x01\0\xff\xff"]),
         }],
     },
 ];

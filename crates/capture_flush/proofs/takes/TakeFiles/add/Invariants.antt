@@ -8,3 +8,6 @@ ghost-last g a = g.s
 
 abbrev pub ghost-block_size : goal.ghost-block_size
 ghost-block_size g a = g.s
+
+abbrev pub ghost-header : goal.ghost-header
+ghost-header g a = g.s

@@ -1,5 +1,7 @@
-use Rattle.std.proofs.Common.{ap}
+use Rattle.std.proofs.Common.{◌≡◌, [], ◌∷◌, ap, ap₂, sym, subst}
 use Rattle.cycle_journal.specs.JournalView.{seen_take}
+use Rattle.capture_flush.specs.Closing.{Ends, ended_by, track_runs}
+use Rattle.capture_flush.proofs.EndsLemmas.{ends_as, ends_one}
 use Rattle.capture_flush.proofs.WalkLemmas.{ended_few, ended_head}
 use Rattle.capture_flush.proofs.takes.TakeFiles.close_ended.Goals as goal
 
@@ -17,3 +19,11 @@ close-requires g c κs within = (
     ),
   ),
 )
+
+pub returns-in-Some-Off-clause-ends : goal.returns-in-Some-Off-clause-ends
+returns-in-Some-Off-clause-ends g c = let r = c.in-Some-Off.run' in
+    let same : track_runs c.args.track (r ∷ []) ≡ track_runs c.args.track (ended_by c.args.before (seen_take c.args.take))
+    = ap₂ (λ o k. track_runs c.args.track (ended_by o (seen_take k))) (sym c.in-Some-Off.is-0) (sym c.in-Some-Off.is-1) in
+    subst (λ b. Ends g.M.Media.outside g.s (track_runs c.args.track (ended_by c.args.before (seen_take c.args.take))) c.args.media.now c.close.new.media b) (sym c.is_err.ensures.value)
+    (ends_as g.M.Media.outside g.s (track_runs c.args.track (r ∷ [])) (track_runs c.args.track (ended_by c.args.before (seen_take c.args.take))) c.args.media.now c.close.new.media _ same
+    (ends_one g.M.Media.outside g.s c.args.track r c.args.media.now c.close.new.media c.close.result c.close.ensures.all c.close.ensures.part c.close.ensures.cause c.close.ensures.reads))
