@@ -106,7 +106,7 @@ const CHECK: Row = Row {
 // and then for the master's header and each of its blocks, for each block of an input that there is, for each reply, and for a report that
 // is short. Of the media two for the session, its size and its text, five for the source, its size and the four parts of its head, and of a
 // play one more, for takes that are there; then two for the source's one line, the second of which finds its end, and of a take one for the
-// room of its header, one for each block, and one for the header.
+// header of no blocks, one for each block, one for the header of the first block, and one for that of all.
 const TABLE: &[(Row, Object, u32, u32)] = &[
     (EXPORT, Object::Input, 1, 0),
     (EXPORT, Object::Control, 0, 0),
@@ -121,7 +121,7 @@ const TABLE: &[(Row, Object, u32, u32)] = &[
     (ONE_TAKE, Object::Input, 4, 2),
     (ONE_TAKE, Object::Master, 0, 3),
     (ONE_TAKE, Object::Out, 0, 4),
-    (ONE_TAKE, Object::Media, 8, 6),
+    (ONE_TAKE, Object::Media, 8, 7),
 ];
 
 #[test]

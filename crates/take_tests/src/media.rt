@@ -18,7 +18,7 @@ pub(crate) struct QuietMedia {
 
 impl Model for QuietMedia {
     ghost use Rattle.std.specs.Prelude.{◌<◌};
-    ghost use Rattle.ses_io.specs.Memory.{Counts};
+    ghost use Rattle.ses_files.specs.Counts.{Counts};
 
     ghost Value = { Counts };
 
