@@ -3,5 +3,6 @@ pub mod BoxLemmas
 pub mod GivenLemmas
 mod MarkLemmas
 mod KeepLemmas
+mod PassLemmas
 pub mod ShowLemmas
 mod Vectors

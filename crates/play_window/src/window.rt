@@ -1,5 +1,5 @@
 //! A window takes items in and keeps, of each block from the next on, the piece that was offered last.
-ghost use Rattle.std.specs.Prelude.{◌≡◌, ◌<◌, ◌≤◌, ◌&&◌, ◌==◌, nat_lt, max, true, List, [], length, option_map, IfOk, IfSome};
+ghost use Rattle.std.specs.Prelude.{◌≡◌, ◌<◌, ◌≤◌, ◌&&◌, ◌==◌, nat_lt, max, true, false, List, [], length, option_map, IfOk, IfSome};
 ghost use Rattle.engine_model.specs.Cycle.{force};
 ghost use Rattle.piece_item.specs.Views.{item_of, kind_of};
 ghost use Rattle.play_window.specs.Offers.{Offered, IsNear, is_later, is_piece_of, kinds, piece_of};
@@ -104,6 +104,19 @@ impl Window {
         if is_later(item.kind, generation) {
             return Offer::Later(item);
         }
+        Offer::Husk(self.take_in(generation, next, item))
+    }
+
+    // Keeps the item where it is a piece that is still to be played, and gives a box back.
+    fn take_in(&mut self, generation: u32, next: u32, item: Box<Item>) -> Box<Item>
+        requires since { IsNoEarlier self.old.generation self.old.next generation next }
+        requires near { IsNear self.old.depth generation next (kind_of item.value.kind) }
+        requires now { is_later generation (kind_of item.value.kind) ≡ false }
+        requires samples { length item.value.samples.items ≡ self.old.samples }
+        ensures { TakesIn self.old
+            (record { generation = generation; next = next; item = item_of item.value })
+            result self.new }
+    {
         match item.kind {
             Kind::Piece {
                 generation: of,
@@ -111,14 +124,12 @@ impl Window {
                 ..
             } => {
                 if of < generation || seq < next {
-                    return Offer::Husk(self.pass(generation, next, 0, item));
+                    return self.pass(generation, next, 0, item);
                 }
-                Offer::Husk(self.keep(generation, next, seq, item))
+                self.keep(generation, next, seq, item)
             }
-            Kind::Settled { edition, .. } => {
-                Offer::Husk(self.pass(generation, next, edition, item))
-            }
-            Kind::Blank => Offer::Husk(self.pass(generation, next, 0, item)),
+            Kind::Settled { edition, .. } => self.pass(generation, next, edition, item),
+            Kind::Blank => self.pass(generation, next, 0, item),
         }
     }
 

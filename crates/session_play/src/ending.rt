@@ -1,17 +1,15 @@
 //! Which status a run ends with that was played.
-ghost use Rattle.std.specs.Prelude.{◌≡◌};
+ghost use Rattle.std.specs.Prelude.{◌≡◌, false};
 ghost use Rattle.session_play.specs.Ending.{status_at_end};
 
 use cycle_journal::Status;
 use run_world::Faults;
 
-/// The status of a run in which this failed: of several faults the first in this order.
-pub fn status_at_end(faults: &Faults) -> Status
-    ensures { result ≡ status_at_end faults.now }
+// The same of a run that had memory enough.
+fn status_with_memory(faults: &Faults) -> Status
+    ensures { result ≡ status_at_end (record faults.now { memory = false }) }
 {
-    if faults.memory {
-        Status::NoMemory
-    } else if faults.input {
+    if faults.input {
         Status::InputFault
     } else if faults.master {
         Status::MasterFault
@@ -28,4 +26,14 @@ pub fn status_at_end(faults: &Faults) -> Status
     } else {
         Status::Done
     }
+}
+
+/// The status of a run in which this failed: of several faults the first in this order.
+pub fn status_at_end(faults: &Faults) -> Status
+    ensures { result ≡ status_at_end faults.now }
+{
+    if faults.memory {
+        return Status::NoMemory;
+    }
+    status_with_memory(faults)
 }

@@ -1,5 +1,6 @@
 -- Tracks are looked at one after the other.
-use Rattle.std.proofs.Common.{◌≡◌, ℕ, ◌+◌, ◌<◌, ◌≤◌, List, length, sym, subst, slice_index_or, arith, ◌∙◌}
+use Rattle.std.proofs.Common.{◌≡◌, ℕ, ◌+◌, ◌<◌, ◌≤◌, List, length, set, refl, sym, subst, slice_index_or, arith, ◌∙◌, length-set}
+use Rattle.std.proofs.lemmas.List.{get_or_default, get_or-set_same, get_or-set_other}
 use Rattle.std.specs.Prelude.{Bool, true, false}
 use mathlib.Core.Logic.{dite}
 use native.Mathlib.Decide.{ℕ_discrete}
@@ -42,6 +43,30 @@ module _ (at : PlayPosition) (a : List (Receiver Item)) (d : List TrackPlayback)
           tells = λ there shown. told_by_all at was.0 _ _ _ _ was.1 looks there some shown;
         };
   }
+
+  looked_here : (r : Receiver Item) (k : TrackPlayback) → n < length b → n < length e → ((x : Receiver Item) × ((y : TrackPlayback) × Looks at (slice_index_or b n x) (slice_index_or e n y) r k))
+      → (x : Receiver Item) (y : TrackPlayback) → Looks at (slice_index_or a n x) (slice_index_or d n y) (slice_index_or (set b n r) n x) (slice_index_or (set e n k) n y)
+  looked_here r k play playback looks x y =
+      subst (λ (q : TrackPlayback). Looks at (slice_index_or a n x) (slice_index_or d n y) (slice_index_or (set b n r) n x) q) (sym (get_or-set_same e n k y playback))
+      (subst (λ (q : Receiver Item). Looks at (slice_index_or a n x) (slice_index_or d n y) q k) (sym (get_or-set_same b n r x play))
+      (subst (λ (q : TrackPlayback). Looks at (slice_index_or a n x) q r k) (get_or_default e n looks.1.0 y playback ∙ below.playback_left n y (omega arith))
+      (subst (λ (q : Receiver Item). Looks at q (slice_index_or e n looks.1.0) r k) (get_or_default b n looks.0 x play ∙ below.play_left n x (omega arith)) looks.1.1)))
+
+  -- and one more
+  pub looked_more : (r : Receiver Item) (k : TrackPlayback) → n < length b → n < length e → ((x : Receiver Item) × ((y : TrackPlayback) × Looks at (slice_index_or b n x) (slice_index_or e n y) r k))
+      → LookedBelow at a d (set b n r) (set e n k) (n + 1)
+  looked_more r k play playback looks = record {
+    plays = length-set b n r ∙ below.plays;
+    playbacks = length-set e n k ∙ below.playbacks;
+    looked = λ t x y under. dite (ℕ_discrete t n) (λ here. subst (λ (z : ℕ). Looks at (slice_index_or a z x) (slice_index_or d z y) (slice_index_or (set b n r) z x) (slice_index_or (set e n k) z y)) (sym here) (looked_here r k play playback looks x y))
+        (λ other. subst (λ (q : Receiver Item). Looks at (slice_index_or a t x) (slice_index_or d t y) q (slice_index_or (set e n k) t y)) (sym (get_or-set_other b n t r x other))
+        (subst (λ (q : TrackPlayback). Looks at (slice_index_or a t x) (slice_index_or d t y) (slice_index_or b t x) q) (sym (get_or-set_other e n t k y other)) (below.looked t x y (omega (arith, other)))));
+    play_left = λ t x far. get_or-set_other b n t r x (λ same. omega arith) ∙ below.play_left t x (omega arith);
+    playback_left = λ t y far. get_or-set_other e n t k y (λ same. omega arith) ∙ below.playback_left t y (omega arith);
+  }
+
+pub looked_none : (at : PlayPosition) (a : List (Receiver Item)) (d : List TrackPlayback) → LookedBelow at a d a d 0
+looked_none at a d = record { plays = refl; playbacks = refl; looked = λ t x y under. absurd (omega arith); play_left = λ t x far. refl; playback_left = λ t y far. refl }
 
 -- ---- the windows are asked, the last one first
 

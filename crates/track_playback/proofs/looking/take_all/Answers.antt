@@ -17,6 +17,15 @@ returns-then-holds-clause-offers c = let l = c.loop-item in
     holds_one c.args.at c.args.ring.now c.args.window.now l.ring c.take.new.self l.window l.husk l.invariant.offers c.in-Ok.ensures.ring
     c.in-Ok.item c.in-Ok.ensures.answer.received
 
+pub returns-then-holds-clause-ends : goal.returns-then-holds-clause-ends
+returns-then-holds-clause-ends c = (
+  ap (λ x. holds c.args.at (kind_of x.kind)) (sym c.deref.ensures) ∙ sym c.holds.ensures ∙ c.if-holds.true,
+  ap (λ r. r.tails) c.in-Ok.ensures.answer.received ∙ c.loop-item.invariant.tails,
+)
+
+pub returns-then-holds-clause-told : goal.returns-then-holds-clause-told
+returns-then-holds-clause-told c = tt
+
 pub loop-item-preserved : goal.loop-item-preserved
 loop-item-preserved c = let l = c.loop-item in record {
   offers = offers_one c.args.at c.args.ring.now c.args.window.now l.ring c.take.new.self l.window l.husk l.invariant.offers c.in-Ok.ensures.ring

@@ -1,5 +1,5 @@
-use Rattle.std.proofs.Common.{arith}
-use Rattle.track_playback.proofs.PlaybacksLemmas.{all_show, played_left}
+use Rattle.std.proofs.Common.{arith, rules}
+use Rattle.track_playback.proofs.PlaybacksLemmas.{all_show, looked_more, looked_none, played_left}
 use Rattle.track_playback.proofs.LookUpLemmas.{all_looked_up}
 use Rattle.track_playback.proofs.playbacks.look_at_all.Goals as goal
 
@@ -16,3 +16,11 @@ pub returns-clause-looked_up : goal.returns-clause-looked_up
 returns-clause-looked_up c = let l = c.loop-t in
     all_looked_up c.args.at c.args.plays.now c.args.playbacks.now l.plays l.playbacks l.t l.invariant
     (omega (arith, c.loop-t-test.false, c.requires.closed.count, l.invariant.playbacks)) (omega (arith, l.auto.t-end, l.invariant.playbacks))
+
+pub loop-t-init : goal.loop-t-init
+loop-t-init c = looked_none c.args.at c.args.plays.now c.args.playbacks.now
+
+pub loop-t-preserved : goal.loop-t-preserved
+loop-t-preserved c = let l = c.loop-t in
+    looked_more c.args.at c.args.plays.now c.args.playbacks.now l.plays l.playbacks l.t l.invariant _ _ (omega (arith, c.loop-t-test.true, c.requires.closed.count, l.invariant.plays)) (omega (arith, c.loop-t-test.true, l.invariant.playbacks))
+    (search rules)
