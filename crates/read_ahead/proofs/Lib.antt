@@ -7,3 +7,4 @@ pub mod ReadLemmas
 pub mod ServeLemmas
 pub mod EnterLemmas
 pub mod FirstLemmas
+mod HandLemmas

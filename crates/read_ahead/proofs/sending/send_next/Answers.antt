@@ -1,4 +1,5 @@
-use Rattle.std.proofs.Common.{◌≡◌, ◌∙◌, sym, ap, subst, refl, rules, true, inl, inr}
+use Rattle.std.proofs.Common.{◌≡◌, ◌∙◌, sym, ap, subst, refl, rules, arith, true, false, true≢false, inl, inr}
+use Rattle.std.proofs.lemmas.Grind.{common_steps}
 use Rattle.std.specs.Prelude.{Some, IsSomeAnd}
 use Rattle.audio_source.specs.Told.{source_sound}
 use Rattle.piece_item.specs.declared.item.Item.{Item}
@@ -8,9 +9,12 @@ use Rattle.read_ahead.specs.Pass.{PassState}
 use Rattle.read_ahead.specs.Items.{IsBlockOf, HasMade}
 use Rattle.read_ahead.specs.SendProgress.{needs_of, target_of, now_due, advanced}
 use Rattle.read_ahead.specs.declared.target.TrackTarget.{TrackTarget}
+use Rattle.read_ahead.specs.Reader.{ReaderState}
+use Rattle.read_ahead.proofs.HandLemmas.{not_at_hand}
+use Rattle.read_ahead.proofs.ReadLemmas.{Reads, read_well, reads_none, went}
 use Rattle.read_ahead.proofs.RunLemmas.{serves_none, serves_nothing, serves_one, serves_full, not_made}
 use Rattle.read_ahead.proofs.sending.send_next.Goals as goal
-use Rattle.read_ahead.proofs.sending.send_next.Goals.{then-not-eq+in_default-fill, else-not-eq}
+use Rattle.read_ahead.proofs.sending.send_next.Goals.{then-not-eq+in_default-fill, else-not-eq, then-supply, else-supply}
 
 pub returns-in_default-clause-serves : goal.returns-in_default-clause-serves
 returns-in_default-clause-serves g c = serves_nothing _ _ _ _ c.args.supply.now c.args.end.now
@@ -51,3 +55,51 @@ returns-in-Err-put-clause-serves g c = let item = c.if-not-eq.item.value in let 
       | else-not-eq w ↦ (let made : p.made ≡ true = search rules in let box : IsSomeAnd p.spare (λ b. b.value ≡ item) = search rules in inl (subst (HasMade p) same (record { made = made; box = box })))
     ])
     (λ kept. search rules)
+
+pub returns-in-Ok-clause-scratch : goal.returns-in-Ok-clause-scratch
+returns-in-Ok-clause-scratch g c = elim c.if-not-eq.branch [
+  | then-not-eq+in_default-fill w ↦ ap (λ r. r.room) w.reader-is ∙ w.in_default-fill.ensures.scratch
+  | else-not-eq w ↦ ap (λ r. r.room) w.reader-is
+]
+
+pub returns-in-Ok-clause-read : goal.returns-in-Ok-clause-read
+returns-in-Ok-clause-read g c = let outside = g.M.Media.outside in let old = c.args.reader.now in
+    let reads : Reads outside old c.if-not-eq.reader went = elim c.if-not-eq.branch [
+      | then-not-eq+in_default-fill w ↦ subst (λ (r : ReaderState g.row.M.Denot). Reads outside old r went) (sym w.reader-is) w.in_default-fill.ensures.read
+      | else-not-eq w ↦ subst (λ (r : ReaderState g.row.M.Denot). Reads outside old r went) (sym w.reader-is) (reads_none outside old)
+    ] in read_well outside old c.if-not-eq.reader tt true reads
+
+pub returns-in-Err-put-clause-scratch : goal.returns-in-Err-put-clause-scratch
+returns-in-Err-put-clause-scratch g c = elim c.if-not-eq.branch [
+  | then-not-eq+in_default-fill w ↦ ap (λ r. r.room) w.reader-is ∙ w.in_default-fill.ensures.scratch
+  | else-not-eq w ↦ ap (λ r. r.room) w.reader-is
+]
+
+pub returns-in-Err-put-clause-read : goal.returns-in-Err-put-clause-read
+returns-in-Err-put-clause-read g c = let outside = g.M.Media.outside in let old = c.args.reader.now in
+    let reads : Reads outside old c.if-not-eq.reader went = elim c.if-not-eq.branch [
+      | then-not-eq+in_default-fill w ↦ subst (λ (r : ReaderState g.row.M.Denot). Reads outside old r went) (sym w.reader-is) w.in_default-fill.ensures.read
+      | else-not-eq w ↦ subst (λ (r : ReaderState g.row.M.Denot). Reads outside old r went) (sym w.reader-is) (reads_none outside old)
+    ] in read_well outside old c.if-not-eq.reader tt false reads
+
+pub returns-in-Err-put-clause-at_hand : goal.returns-in-Err-put-clause-at_hand
+returns-in-Err-put-clause-at_hand g c = λ hand. elim c.if-not-eq.branch [
+  | then-not-eq+in_default-fill w ↦ not_at_hand (needs_of (target_of c.args.pass.now c.args.track)) c.args.supply.now c.in-Some-take.item c.in-Some.kind c.if-supply.value (search rules)
+      (ap (λ (a : TrackTarget). now_due (needs_of a) c.args.supply.now.progress) (sym c.of-target.ensures.those) ∙ sym c.in-Some.ensures.due)
+      (λ made same. elim c.if-supply.branch [
+        | then-supply v ↦ grind (arith, common_steps, v.value-is, v.eq.ensures, v.deref.ensures, same)
+        | else-supply v ↦ absurd (true≢false (sym made ∙ v.if-supply.false))
+      ]) (search rules) hand
+  | else-not-eq w ↦ w.reader-is
+]
+
+pub returns-in-Err-clause-scratch : goal.returns-in-Err-clause-scratch
+returns-in-Err-clause-scratch g c = c.in-Err.ensures.scratch
+
+pub returns-in-Err-clause-at_hand : goal.returns-in-Err-clause-at_hand
+returns-in-Err-clause-at_hand g c = λ hand. not_at_hand (needs_of (target_of c.args.pass.now c.args.track)) c.args.supply.now c.in-Some-take.item c.in-Some.kind c.if-supply.value (search rules)
+    (ap (λ (a : TrackTarget). now_due (needs_of a) c.args.supply.now.progress) (sym c.of-target.ensures.those) ∙ sym c.in-Some.ensures.due)
+    (λ made same. elim c.if-supply.branch [
+      | then-supply v ↦ grind (arith, common_steps, v.value-is, v.eq.ensures, v.deref.ensures, same)
+      | else-supply v ↦ absurd (true≢false (sym made ∙ v.if-supply.false))
+    ]) (search rules) hand
