@@ -191,7 +191,7 @@ module _ {V I W : Type 0} (media : MediaOutside V) (inputs : SourceOutside I) (s
         subst (λ es. Promises (record { session = on.begun.session; edits = es; start = on.begun.start; before = on.begun.before }) (entries_of p.process) now.ends) (ap (λ (z : Edition). z.edits) (sym edition_now))
         (promises_still (record { session = on.begun.session; edits = p.edition.edits; start = on.begun.start; before = on.begun.before }) (entries_of p.process) ours now.ends same_now
         (promises_while_looking (playing_at (now_of on run)) p.edition.edits (entries_of p.process) ours ours
-        (drop p.played p.edition.edits, take-append-drop p.played p.edition.edits) (goes_on_all ours.plays.items) refl refl refl may.rests.promises))
+        (drop p.process.entered p.edition.edits, take-append-drop p.process.entered p.edition.edits) (goes_on_all ours.plays.items) refl refl refl may.rests.promises))
 
     room_now : stopped.journal.room ≤ 100000
     room_now = omega (arith, ap (λ (j : Listed made.Entry). j.room) closes.journal, may.rests.asked, may.rests.serves.serving.cycles)

@@ -1,6 +1,6 @@
 -- The process of a run makes a cycle: what is so of the run then, whatever was answered, and it is the letter P.
 use Rattle.std.proofs.Common.{◌≡◌, inr, ℕ, suc, List, [], ◌∷◌, ◌++◌, length, take, refl, sym, ap, subst, ◌∙◌, arith}
-use Rattle.std.specs.Prelude.{true, false, ◌||◌, not, if◌then◌else◌, map, filter, Result, Ok, Err, OnOk}
+use Rattle.std.specs.Prelude.{true, false, ◌||◌, not, if◌then◌else◌, map, filter, Result, Ok, Err, OnOk, OnErr}
 use Rattle.std.proofs.Math.Seq.{take-append_seam}
 use Rattle.std.proofs.lemmas.Bool.{false≢true, or_right}
 use Rattle.ses_io.specs.Outside.{MediaOutside, SourceOutside, SinkOutside}
@@ -10,13 +10,14 @@ use Rattle.session_model.specs.Valid.{IsValid}
 use Rattle.machine_model.specs.Events.{ToButler, ToControl, Capture, End, AckSend, after, is_recorded}
 use Rattle.machine_model.specs.Letters.{ends_cycle, gather_moves, track_places}
 use Rattle.machine_laws.proofs.EventLists.{after_append}
+use Rattle.edition_log.specs.EditionState.{EditionState as Edition}
 use Rattle.input_blocks.specs.Rest.{StreamForm}
 use Rattle.input_blocks.specs.State.{InputState, IsCutShort, IsReadTo}
 use Rattle.master_blocks.specs.State.{MasterState}
 use Rattle.butler.specs.ButlerState.{ButlerState}
 use Rattle.process_cycle.specs.declared.fault.CycleFault.{CycleFault}
 use Rattle.process_cycle.specs.declared.fault.CycleFault.TheVariants.{InputFault, MasterFault}
-use Rattle.process_cycle.specs.Cycles.{HasStopped, next_bytes}
+use Rattle.process_cycle.specs.Cycles.{HasStopped, MakesEntry, next_bytes}
 use Rattle.process_cycle.specs.Ends.{AreOtherEnds}
 use Rattle.process_cycle.specs.Looked.{HasLooked}
 use Rattle.process_cycle.specs.Promised.{HoldsBlocks, IsMastered}
@@ -24,7 +25,7 @@ use Rattle.process_cycle.specs.ProcessState.{ProcessState, entries_of, items_of}
 use Rattle.worker_pair.specs.declared.pair.Pair.{Pair}
 use Rattle.worker_pair.specs.Begun.{playing_at}
 use Rattle.worker_pair.specs.Plays.{Cycles, MayCycle}
-use Rattle.worker_pair.specs.Runs.{HearsInput, Rests, Runs}
+use Rattle.worker_pair.specs.Runs.{HearsInput, Rests, Runs, given_last}
 use Rattle.worker_pair.specs.Steps.{EndsAsMachine}
 use Rattle.worker_pair.specs.Tied.{IsTied}
 use Rattle.worker_pair.proofs.NowLemmas.{now_rests, now_runs}
@@ -45,8 +46,13 @@ all_read : {I : Type 0} (inputs : SourceOutside I) (start : List ℕ) (blocks : 
     x.done ≡ x.stream.frames
 all_read inputs start blocks x read none = omega (arith, read.done, none)
 
+-- a cycle leaves the number of the edition that was given last
+entered_still : {I W : Type 0} (s : Session) (e : Edition) (answer : Result (Unit {0}) CycleFault) (p q : ProcessState I W) → OnOk answer (MakesEntry s e p q) → OnErr answer (HasStopped p q) → q.entered ≡ p.entered
+entered_still {I} {W} s e (Ok x) p q made stopped = ap (λ (z : ProcessState I W). z.entered) made.same
+entered_still {I} {W} s e (Err why) p q made stopped = ap (λ (z : ProcessState I W). z.entered) stopped
+
 module _ {V I W : Type 0} (media : MediaOutside V) (inputs : SourceOutside I) (sinks : SinkOutside W) (on : Started V I W) (old : Run V I W) (is : IsUnderWay media inputs sinks on old)
-    (in_cycle : old.pair.in_cycle ≡ true) (played : old.pair.played ≡ length old.pair.playing.edits) (looked : HasLooked (playing_at (now_of on old)) old.pair.process) where
+    (in_cycle : old.pair.in_cycle ≡ true) (played : old.pair.process.entered ≡ length old.pair.playing.edits) (looked : HasLooked (playing_at (now_of on old)) old.pair.process) where
   -- the process hasn't stopped,
   goes : has_stopped old.failed ≡ false
   goes = going media inputs sinks on old is in_cycle
@@ -71,8 +77,9 @@ module _ {V I W : Type 0} (media : MediaOutside V) (inputs : SourceOutside I) (s
     cycled failed = record { pair = new; failed = failed }
 
     -- the place is the same
-    played_same : take new.played new.edition.edits ≡ take old.pair.played old.pair.edition.edits
-    played_same = ap (λ (p : Pair V I W). take p.played p.edition.edits) cycles.same
+    played_same : given_last new ≡ given_last old.pair
+    played_same = (λ i. take (cycles.met.process_is i).entered (cycles.same i).edition.edits)
+        ∙ ap (λ n. take n old.pair.edition.edits) (entered_still on.begun.session old.pair.playing answer old.pair.process cycles.process cycles.made cycles.fault)
 
     -- the meeting changes nothing of the input,
     input_met : new.process.input ≡ cycles.process.input

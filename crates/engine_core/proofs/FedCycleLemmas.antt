@@ -1,6 +1,6 @@
 -- A cycle in which all is ready plays as the plain one, whatever it takes, and all is heard after it still.
 use Rattle.std.proofs.Common.{◌≡◌, inl, inr, ℕ, suc, ◌+◌, ◌<◌, ◌≤◌, List, [], ◌∷◌, ◌++◌, length, refl, sym, ap, subst, arith, ◌∙◌}
-use Rattle.std.specs.Prelude.{◌⊎◌, ◌^◌, Bool, true, false, ◌==◌, max, if◌then◌else◌, map, reverse, take, slice_get, slice_index_or, Some, Result, Ok, Err}
+use Rattle.std.specs.Prelude.{◌⊎◌, ◌^◌, Bool, true, false, ◌==◌, max, if◌then◌else◌, map, reverse, slice_get, slice_index_or, Some, Result, Ok, Err}
 use Rattle.std.proofs.lemmas.Bool.{eqb-true, true≢false}
 use Rattle.std.proofs.lemmas.List.{length-map, length-reverse, map-append}
 use Rattle.std.proofs.lemmas.Option.{get_or_from_slice_get, same_Some, slice_get_within}
@@ -42,7 +42,7 @@ use Rattle.process_cycle.specs.ProcessState.{ProcessState, entries_of, kinds_of}
 use Rattle.worker_pair.specs.declared.pair.Pair.{Pair}
 use Rattle.process_cycle.specs.Ends.{AllMeet}
 use Rattle.worker_pair.specs.Plays.{Cycles, Looks, MeetsAfter}
-use Rattle.worker_pair.specs.Runs.{Runs}
+use Rattle.worker_pair.specs.Runs.{Runs, given_last}
 use Rattle.worker_pair.proofs.LookLemmas.{kinds_turned}
 use Rattle.engine_core.specs.declared.failed.Failed.{Failed}
 use Rattle.engine_core.specs.declared.run.Run.{Run}
@@ -208,7 +208,7 @@ module _ {V I W : Type 0} (media : MediaOutside V) (inputs : SourceOutside I) (s
         ap length acks_looked,
         length-reverse (map seen_ack acks.sent),
         length-map acks.sent seen_ack,
-        told_few (take served.pair.played served.pair.edition.edits) s.depth (made_of served) (reverse (map seen_ack acks.sent)) (reverse acks.heads) is.rests.promises.to_butler,
+        told_few (given_last served.pair) s.depth (made_of served) (reverse (map seen_ack acks.sent)) (reverse acks.heads) is.rests.promises.to_butler,
         many_made served.pair.process,
         is.rests.entered.room newest.opens,
         is.rests.asked,

@@ -63,7 +63,7 @@ module _ {M I C W O : Type 0} (media : MediaOutside M) (inputs : SourceOutside I
 
     -- the edits that came since the process looked last
     abbrev since : List Edit
-    since = drop written.pair.played written.pair.edition.edits
+    since = drop written.pair.process.entered written.pair.edition.edits
 
     abbrev heard : Sounds
     heard = source_sound on.opening.started.begun.files written.pair.butler.sources.opened
@@ -75,7 +75,7 @@ module _ {M I C W O : Type 0} (media : MediaOutside M) (inputs : SourceOutside I
     samples_so = samples_of heard s all_edits
 
     whole : all_edits ≡ written.pair.edition.edits
-    whole = take-append-drop written.pair.played written.pair.edition.edits
+    whole = take-append-drop written.pair.process.entered written.pair.edition.edits
 
     all_received : AllOfTrack s all_edits samples_so (items_of p)
     all_received = subst (λ es. AllOfTrack s es (samples_of heard s es) (items_of p)) (sym whole) (of_tracks media (now_of on.opening.started written) written.pair x.written.is_written.rests.serves tells)

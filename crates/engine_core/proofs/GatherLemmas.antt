@@ -96,9 +96,9 @@ module _ {V I W : Type 0} where
   ]
 
   -- where a cycle is open it has looked in the edition that it plays
-  pub played_all : (old new : Run V I W) → GathersOn old new → new.pair.in_cycle ≡ true → new.pair.played ≡ length new.pair.playing.edits
+  pub played_all : (old new : Run V I W) → GathersOn old new → new.pair.in_cycle ≡ true → new.pair.process.entered ≡ length new.pair.playing.edits
   played_all old new gathers in_cycle = elim (either gathers.entered.pair.in_cycle) [
-    | inl opens ↦ (let same = (gathers.looks opens).same in ap (λ (p : Pair V I W). p.played) same ∙ sym (ap (λ (p : Pair V I W). length p.playing.edits) same))
+    | inl opens ↦ (let looks = gathers.looks opens in ap (λ (z : ProcessState I W). z.entered) looks.met.process_is ∙ looks.looks.entered ∙ sym (ap (λ (p : Pair V I W). length p.playing.edits) looks.same))
     | inr shut ↦ absurd (false≢true (sym (ap (λ (r : Run V I W). r.pair.in_cycle) (gathers.stays shut) ∙ shut) ∙ in_cycle))
   ]
 

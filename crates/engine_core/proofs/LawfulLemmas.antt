@@ -60,14 +60,14 @@ module _ {V I W : Type 0} (media : MediaOutside V) (at : At) (p : Pair V I W) (r
       (ordered_stays s at.served serves.served_of.0 t (reverse (kinds r.0.received)) of_served))
 
   -- the edits in which the process looked last are the first of all
-  pub played_first : at.played ++ drop p.played edits ≡ edits
-  played_first = ap (λ l. l ++ drop p.played edits) rests.entered.played ∙ take-append-drop p.played edits
+  pub played_first : at.played ++ drop p.process.entered edits ≡ edits
+  played_first = ap (λ l. l ++ drop p.process.entered edits) rests.entered.played ∙ take-append-drop p.process.entered edits
 
   pub journal_is_lawful : is_lawful_newest s edits (entries_of p.process) ≡ true
   journal_is_lawful = let tracks = map received_kinds p.process.ends.plays.items in let entries = entries_of p.process in
-      let made : AreMade s (at.played ++ drop p.played edits) (length at.played) tracks entries =
-      made_stays s at.played (drop p.played edits) (length at.played) tracks entries (le_refl (length at.played)) rests.promises.made in
-      let within : length at.played ≤ length (at.played ++ drop p.played edits) = omega (arith, length-append at.played (drop p.played edits)) in
+      let made : AreMade s (at.played ++ drop p.process.entered edits) (length at.played) tracks entries =
+      made_stays s at.played (drop p.process.entered edits) (length at.played) tracks entries (le_refl (length at.played)) rests.promises.made in
+      let within : length at.played ≤ length (at.played ++ drop p.process.entered edits) = omega (arith, length-append at.played (drop p.process.entered edits)) in
       ap (is_lawful_newest s edits) (sym (reverse-reverse entries))
       ∙ what_is_made_is_lawful s edits (length at.played) tracks entries (subst (λ l. length at.played ≤ length l) played_first within) ordered
       (subst (λ l. AreMade s l (length at.played) tracks entries) played_first made)

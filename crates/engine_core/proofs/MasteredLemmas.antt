@@ -107,10 +107,10 @@ module _ {M I C W O : Type 0} (media : MediaOutside M) (inputs : SourceOutside I
     holds : sinks.held written.pair.process.master.sink ≡ on.opening.started.begun.before ++ head_bytes s written.pair.process.journal.room
         ++ flat_map (entry_bytes s edits (samples_of sounds s edits)) (seen_entries written.pair.process.journal.items)
         ++ end_bytes s written.pair.process.journal.room (length written.pair.process.journal.items)
-    holds = let p = written.pair in let more = drop p.played edits in
+    holds = let p = written.pair in let more = drop p.process.entered edits in
         subst (λ es. AllOfTrack s es (samples_of sounds s es) (items_of p.process) → sinks.held p.process.master.sink ≡ on.opening.started.begun.before ++ head_bytes s p.process.journal.room
         ++ flat_map (entry_bytes s es (samples_of sounds s es)) (seen_entries p.process.journal.items) ++ end_bytes s p.process.journal.room (length p.process.journal.items))
-        (take-append-drop p.played edits) (x.written.is_written.whole (sym x.written.master_failed ∙ fine) told more sounds)
+        (take-append-drop p.process.entered edits) (x.written.is_written.whole (sym x.written.master_failed ∙ fine) told more sounds)
         (of_tracks media (now_of on.opening.started written) p x.written.is_written.rests.serves tells)
 
     -- the run whose master was ended has the same journal, edits and sources

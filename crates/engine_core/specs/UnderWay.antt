@@ -21,7 +21,7 @@ module _ {V I W : Type 0} where
     pub runs : Runs media inputs sinks (at_first on.begun) p
     pub none : p.process.journal.items ≡ []
     pub not_entered : p.butler.entered ≡ 0
-    pub not_looked : p.played ≡ 0
+    pub not_looked : p.process.entered ≡ 0
     pub shut : p.in_cycle ≡ false
     pub media_is : p.butler.media ≡ on.media
     pub opened : p.butler.sources.opened ≡ on.opened

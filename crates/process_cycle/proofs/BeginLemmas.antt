@@ -24,6 +24,7 @@ module _ {I W : Type 0} where
     playbacks = was.playbacks;
     captures = was.captures;
     depth = was.depth;
+    entered = was.entered;
     generation = was.generation;
     next = was.next;
     later = was.later;

@@ -167,6 +167,7 @@ module _ {I W : Type 0} (inputs : SourceOutside I) (at : Playing) (e : log.Editi
         playbacks = may.playing.playbacks;
         captures = m.captures ∙ may.playing.captures;
         depth = may.playing.depth;
+        entered = may.playing.entered;
         generation = may.playing.generation;
         next = next_rolled;
         later = λ h above. ap (rolled h) entries_are ∙ none_later (position_of p) made.state h made.edition made.settled (map seen_note made.notes.items) (entries_of p) rolls above (may.playing.later h above);

@@ -134,6 +134,7 @@ module _ {I W : Type 0} (at : Playing) (p : ProcessState I W) (ends : ProcessEnd
     playbacks = playing.playbacks;
     captures = playing.captures;
     depth = playing.depth;
+    entered = playing.entered;
     generation = playing.generation;
     next = playing.next;
     later = playing.later;

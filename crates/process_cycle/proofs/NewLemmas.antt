@@ -101,7 +101,7 @@ module _ {I W : Type 0} (inputs : SourceOutside I) (sinks : SinkOutside W) (s : 
   at_first = record { session = s; edits = []; start = inputs.left input; before = sinks.held sink }
 
   abbrev first_state : Listed Entry → ℕ → ProcessState I W
-  first_state journal depth = record { input = blocks; master = master; ends = rings; playbacks = playbacks; captures = captures; journal = journal; depth = depth; generation = 0; next = 0 }
+  first_state journal depth = record { input = blocks; master = master; ends = rings; playbacks = playbacks; captures = captures; journal = journal; depth = depth; entered = 0; generation = 0; next = 0 }
 
   -- the input and the master of a new process
   pub record AreBegun : Type 0 where
@@ -122,6 +122,7 @@ module _ {I W : Type 0} (inputs : SourceOutside I) (sinks : SinkOutside W) (s : 
       playbacks = kept.playbacks_count;
       captures = kept.captures_count;
       depth = refl;
+      entered = refl;
       generation = refl;
       next = refl;
       later = λ h above. refl;

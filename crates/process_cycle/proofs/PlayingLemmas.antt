@@ -127,12 +127,13 @@ module _ {I W : Type 0} (inputs : SourceOutside I) (at : Playing) (p : ProcessSt
   pub all_played : AllPlayed at_now p.ends.plays.items p.playbacks
   all_played t r d within = (block_of at.session t, played_here t r d within)
 
-  module _ (plays : Listed (Receiver Item)) (playbacks : List TrackPlayback) (long : length plays.items ≡ length p.ends.plays.items) (wide : length playbacks ≡ length p.playbacks)
+  module _ (plays : Listed (Receiver Item)) (playbacks : List TrackPlayback) (number : ℕ) (number_is : number ≡ length e.edits) (long : length plays.items ≡ length p.ends.plays.items) (wide : length playbacks ≡ length p.playbacks)
       (looks : AllLook at_now p.ends.plays.items p.playbacks plays.items playbacks) where
     abbrev after : ProcessState I W
     after = record p {
       ends = record { plays = plays; takes = p.ends.takes; to_butler = p.ends.to_butler; to_control = p.ends.to_control };
       playbacks = playbacks;
+      entered = number;
       generation = g;
       next = n;
     }
@@ -151,6 +152,7 @@ module _ {I W : Type 0} (inputs : SourceOutside I) (at : Playing) (p : ProcessSt
       playbacks = wide ∙ playing.playbacks;
       captures = playing.captures;
       depth = playing.depth;
+      entered = number_is;
       generation = counted;
       next = next_is;
       later = λ h above. playing.later h (omega (arith, goes_up, above));

@@ -26,7 +26,8 @@ pub record MayLook {I W : Type 0} (inputs : SourceOutside I) (at : Playing) (p :
 
 -- Each track was looked at.
 pub record LooksAtAll {I W : Type 0} (e : Edition) (old new : ProcessState I W) : Type 0 where
-  -- in the generation of the edition
+  -- in the edition of this number and in its generation
+  pub entered : new.entered ≡ length e.edits
   pub generation : new.generation ≡ e.transport.generation
   -- each once
   pub many : length new.ends.plays.items ≡ length old.ends.plays.items
@@ -47,6 +48,7 @@ pub record Keeps {I W : Type 0} (old new : ProcessState I W) : Type 0 where
   pub same : new ≡ record old {
     ends = record { plays = new.ends.plays; takes = old.ends.takes; to_butler = old.ends.to_butler; to_control = old.ends.to_control };
     playbacks = new.playbacks;
+    entered = new.entered;
     generation = new.generation;
     next = new.next;
   }

@@ -48,6 +48,8 @@ pub record IsPlaying {I W : Type 0} (inputs : SourceOutside I) (at : Playing) (p
   pub playbacks : length p.playbacks ≡ length at.session.tracks.items
   pub captures : length p.captures ≡ length at.session.tracks.items
   pub depth : p.depth ≡ at.session.depth
+  -- the number of the edition that it was given last is how many these edits are
+  pub entered : p.entered ≡ length at.edits
   -- its position: the generation of the edits, and how many entries rolled in it
   pub generation : p.generation ≡ generation at.edits (length at.edits)
   pub next : p.next ≡ rolled p.generation (entries_of p)

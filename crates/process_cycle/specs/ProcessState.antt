@@ -29,7 +29,8 @@ pub record ProcessState (I W : Type 0) : Type 0 where
   pub journal : Listed Entry
   -- the items of a ring, which are the blocks of a window
   pub depth : ℕ
-  -- the generation of the edition last given, and how many entries rolled in it
+  -- the number of the edition last given, its generation, and how many entries rolled in that
+  pub entered : ℕ
   pub generation : ℕ
   pub next : ℕ
 

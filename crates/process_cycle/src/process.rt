@@ -47,6 +47,7 @@ pub struct Process<I: Source, W: Sink> {
     captures: FixedList<TrackCapture>,
     journal: Journal,
     depth: u32,
+    entered: u32,
     generation: u32,
     next: u32,
     to_butler: AckSender,
@@ -67,6 +68,7 @@ impl<I: Source, W: Sink> Model for Process<I, W> {
       captures = p.captures.items;
       journal = p.journal;
       depth = p.depth;
+      entered = p.entered;
       generation = p.generation;
       next = p.next;
     } };
@@ -121,6 +123,7 @@ impl<I: Source, W: Sink> Process<I, W> {
             captures,
             journal,
             depth: session.depth,
+            entered: 0,
             generation: 0,
             next: 0,
             to_butler,

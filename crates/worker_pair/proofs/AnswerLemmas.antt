@@ -42,7 +42,7 @@ module _ {V I W : Type 0} (media : MediaOutside V) (inputs : SourceOutside I) (s
 
     -- it is made of its parts
     pub whole : (b : Butler V) (p : ProcessState I W) → b ≡ record old.butler { ends = theirs } → p ≡ record q { ends = ours } →
-        record { edition = old.edition; playing = old.playing; in_cycle = false; butler = b; process = p; acks = old.acks; played = old.played } ≡ met
+        record { edition = old.edition; playing = old.playing; in_cycle = false; butler = b; process = p; acks = old.acks } ≡ met
     whole b p butler process = λ i. record met { butler = butler i; process = process i }
 
     -- after an entry the workers run

@@ -1,5 +1,5 @@
 -- The workers run and rest on when the master was written to.
-use Rattle.std.proofs.Common.{◌≡◌, ◌<◌, length, refl, sym, ap, subst, ◌∙◌}
+use Rattle.std.proofs.Common.{◌≡◌, ◌<◌, ◌≤◌, length, take, refl, sym, ap, subst, ◌∙◌}
 use Rattle.std.specs.Prelude.{Result, Ok, Err, OnOk}
 use Rattle.ses_io.specs.Outside.{MediaOutside, SourceOutside, SinkOutside}
 use Rattle.master_blocks.specs.State.{IsMasterOf, MasterState}
@@ -38,8 +38,8 @@ module _ {V I W : Type 0} (at : At) (p : Pair V I W) (q : Process I W) (same : q
     forms = was.forms;
     room = λ on. subst (λ (z : Process I W). length z.journal.items < z.journal.room) (sym same) (was.room on);
     unended = was.unended;
-    few = was.few;
-    played = was.played;
+    few = subst (λ (z : Process I W). z.entered ≤ length p.playing.edits) (sym same) was.few;
+    played = was.played ∙ ap (λ (z : Process I W). take z.entered p.edition.edits) (sym same);
   }
 
   -- control took nothing,

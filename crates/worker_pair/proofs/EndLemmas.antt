@@ -1,5 +1,5 @@
 -- What stands of a pair whose process has made a cycle, once the ends have met.
-use Rattle.std.proofs.Common.{◌≡◌, ◌<◌, ◌≤◌, length, refl, sym, ap, subst, arith, ◌∙◌}
+use Rattle.std.proofs.Common.{◌≡◌, ◌<◌, ◌≤◌, length, take, refl, sym, ap, subst, arith, ◌∙◌}
 use Rattle.std.specs.Prelude.{true, false, All, slice_index_or}
 use Rattle.std.proofs.lemmas.Bool.{false≢true}
 use Rattle.std.proofs.lemmas.Option.{get_or_from_slice_get, slice_get-get_or, slice_get_within}
@@ -35,8 +35,9 @@ use Rattle.worker_pair.proofs.CycleLemmas.{edition_is, takes_stand}
 use Rattle.worker_pair.proofs.AckLemmas.{acks_on, heads_told}
 
 -- what the process has entered stands where no cycle is open any more
-pub entered_still : {V I W : Type 0} (at : At) (old new : Pair V I W) → HasEntered at old → new ≡ record old { butler = new.butler; process = new.process; in_cycle = false } → HasEntered at new
-entered_still at old new was same = subst (HasEntered at) (sym same) (record {
+pub entered_still : {V I W : Type 0} (at : At) (old new : Pair V I W) → HasEntered at old → new ≡ record old { butler = new.butler; process = new.process; in_cycle = false } →
+    new.process.entered ≡ old.process.entered → HasEntered at new
+entered_still at old new was same given = subst (HasEntered at) (sym same) (record {
   edition_of = was.edition_of;
   begins = was.begins;
   not_ended = was.not_ended;
@@ -44,8 +45,8 @@ entered_still at old new was same = subst (HasEntered at) (sym same) (record {
   forms = was.forms;
   room = λ open_now. absurd (false≢true open_now);
   unended = λ open_now. absurd (false≢true open_now);
-  few = was.few;
-  played = was.played;
+  few = omega (arith, given, was.few);
+  played = was.played ∙ ap (λ n. take n old.edition.edits) (sym given);
 })
 
 module _ {V I W : Type 0} (media : MediaOutside V) (inputs : SourceOutside I) (sinks : SinkOutside W) (at : At) (old : Pair V I W) (may : MayCycle media inputs sinks at old) (q : ProcessState I W)
@@ -110,7 +111,6 @@ module _ {V I W : Type 0} (media : MediaOutside V) (inputs : SourceOutside I) (s
       butler = record old.butler { ends = theirs };
       process = record q { ends = ours };
       acks = old.acks;
-      played = old.played;
     }
 
     -- the workers run on
@@ -118,7 +118,7 @@ module _ {V I W : Type 0} (media : MediaOutside V) (inputs : SourceOutside I) (s
     runs_cycled playing mastered = record {
       serves = serves_met media at (record { edition = old.edition; butler = old.butler; ends = q.ends }) ours theirs (serves_left media at at.played (rings_of old) q.ends may.runs.serves others_cycled
           (λ quiet. subst (λ l. NothingIsTaken l.items) (sym (takes_stand s old.playing p q m (never quiet))) (may.runs.serves.no_take quiet))) meet;
-      entered = entered_still at old after_cycle may.runs.entered refl;
+      entered = entered_still at old after_cycle may.runs.entered refl (ap (λ (z : ProcessState I W). z.entered) m.same);
       control = record {
         ring = may.runs.control.ring ∙ sym (acks_on (ack_of q m.made) p.ends.to_control q.ends.to_control m.to_control) ∙ ap (λ z. z.ring) (sym meet.to_control);
         none_taken = may.runs.control.none_taken;

@@ -162,7 +162,7 @@ module _ {V I W : Type 0} (media : MediaOutside V) (inputs : SourceOutside I) (s
         isn't false is = refl
         isn't true is = absurd (false≢true is)
 
-        more : p.played ≤ length p.playing.edits → length (p.playing.edits ++ runs.entered.begins.0) ≡ length p.edition.edits → length e.edits ≡ length p.edition.edits → p.played ≤ length e.edits
+        more : p.process.entered ≤ length p.playing.edits → length (p.playing.edits ++ runs.entered.begins.0) ≡ length p.edition.edits → length e.edits ≡ length p.edition.edits → p.process.entered ≤ length e.edits
         more few long same = omega (arith, few, long, same, length-append p.playing.edits runs.entered.begins.0)
 
     -- **Entering is the core machine's.**

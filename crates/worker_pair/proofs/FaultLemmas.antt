@@ -34,7 +34,6 @@ module _ {V I W : Type 0} (media : MediaOutside V) (inputs : SourceOutside I) (s
     butler = record old.butler { ends = theirs };
     process = record q { ends = ours };
     acks = old.acks;
-    played = old.played;
   }
 
   module _ (stopped : HasStopped old.process q) (meet : EndsMeet q.ends old.butler.ends ours theirs) where
@@ -50,7 +49,7 @@ module _ {V I W : Type 0} (media : MediaOutside V) (inputs : SourceOutside I) (s
     rests_stopped master = record {
       serves = serves_met media at (record { edition = old.edition; butler = old.butler; ends = q.ends }) ours theirs (serves_left media at at.played (rings_of old) q.ends runs.serves others_stopped
           (λ quiet. subst (λ (ends : ProcessEnds). NothingIsTaken ends.takes.items) (sym ends_same) (runs.serves.no_take quiet))) meet;
-      entered = entered_still at old now runs.entered refl;
+      entered = entered_still at old now runs.entered refl (ap (λ (z : ProcessState I W). z.entered) stopped);
       control = control_on old now refl (meet.to_control ∙ ap (λ (ends : ProcessEnds). ends.to_control) ends_same) runs.control;
       promises = promises_while_meeting (playing_at at) (entries_of q) q.ends ours old.butler.ends theirs others_stopped meet
           (subst (λ (z : ProcessState I W). Promises (playing_at at) (entries_of z) z.ends) (sym stopped) runs.playing.promises);

@@ -1,5 +1,5 @@
 -- What stands of a pair whose process has looked at each track, once the ends have met.
-use Rattle.std.proofs.Common.{◌≡◌, ℕ, ◌<◌, List, length, drop, take, refl, sym, ap, subst, arith, ◌∙◌, le_refl}
+use Rattle.std.proofs.Common.{◌≡◌, ℕ, ◌<◌, List, length, drop, take, refl, sym, ap, subst, arith, ◌∙◌}
 use Rattle.std.proofs.Math.Seq.{take-append_seam}
 use Rattle.std.specs.Prelude.{true, false, slice_get, slice_index_or, Some}
 use Rattle.std.proofs.lemmas.List.{take-append-drop, take-append-le}
@@ -51,8 +51,8 @@ serves_left media at played e ends was others no_take = record {
 
 -- the edits in which the process looked last are the first of those that it entered
 pub played_first : {V I W : Type 0} (at : At) (p : Pair V I W) → HasEntered at p → IsPrefix at.played p.playing.edits
-played_first at p was = subst (λ l. IsPrefix l p.playing.edits) (sym (was.played ∙ ap (take p.played) (sym was.begins.1) ∙ take-append-le p.played p.playing.edits was.begins.0 was.few))
-    (drop p.played p.playing.edits, take-append-drop p.played p.playing.edits)
+played_first at p was = subst (λ l. IsPrefix l p.playing.edits) (sym (was.played ∙ ap (take p.process.entered) (sym was.begins.1) ∙ take-append-le p.process.entered p.playing.edits was.begins.0 was.few))
+    (drop p.process.entered p.playing.edits, take-append-drop p.process.entered p.playing.edits)
 
 -- ---- a look
 
@@ -100,13 +100,12 @@ module _ {V I W : Type 0} (media : MediaOutside V) (inputs : SourceOutside I) (s
       butler = record old.butler { ends = theirs };
       process = record q { ends = ours };
       acks = old.acks;
-      played = length old.playing.edits;
     }
 
     -- it is made of its parts
-    pub whole : (new : Pair V I W) (n : ℕ) → new ≡ record after_look { butler = new.butler; process = new.process; played = n } → new.butler ≡ record old.butler { ends = theirs } →
-        new.process ≡ record q { ends = ours } → n ≡ length old.playing.edits → new ≡ after_look
-    whole new n same butler process is = same ∙ (λ i. record after_look { butler = butler i; process = process i; played = is i })
+    pub whole : (new : Pair V I W) → new ≡ record after_look { butler = new.butler; process = new.process } → new.butler ≡ record old.butler { ends = theirs } →
+        new.process ≡ record q { ends = ours } → new ≡ after_look
+    whole new same butler process = same ∙ (λ i. record after_look { butler = butler i; process = process i })
 
     -- the ring to control is as it was
     control_same : ours.to_control ≡ old.process.ends.to_control
@@ -127,8 +126,8 @@ module _ {V I W : Type 0} (media : MediaOutside V) (inputs : SourceOutside I) (s
         forms = was.forms;
         room = λ open_now. subst (λ (z : ProcessState I W). length z.journal.items < z.journal.room) (sym keeps.same) (was.room open_now);
         unended = was.unended;
-        few = le_refl (length old.playing.edits);
-        played = sym (ap (take (length old.playing.edits)) (sym was.begins.1) ∙ take-append_seam old.playing.edits was.begins.0);
+        few = omega (arith, looks.entered);
+        played = sym (ap (λ n. take n old.edition.edits) looks.entered ∙ ap (take (length old.playing.edits)) (sym was.begins.1) ∙ take-append_seam old.playing.edits was.begins.0);
       };
       control = control_on old after_look refl control_same runs.control;
       playing = playing;

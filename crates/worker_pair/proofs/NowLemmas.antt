@@ -14,7 +14,7 @@ use Rattle.butler.specs.Serving.{IsServing}
 use Rattle.worker_pair.specs.declared.ending.Ending.{Ending}
 use Rattle.worker_pair.specs.declared.pair.Pair.{Pair}
 use Rattle.worker_pair.specs.Begun.{At, turned}
-use Rattle.worker_pair.specs.Runs.{HasControl, HasEntered, Rests, Runs, Serves, at_now}
+use Rattle.worker_pair.specs.Runs.{HasControl, HasEntered, Rests, Runs, Serves, at_now, given_last}
 
 -- the edits that a butler entered last are so many of the edition's first as it says
 entered_are : {V : Type 0} (s : Session) (served edits : List Edit) (b : Butler V) → IsPrefix served edits → IsServing s served b → take b.entered edits ≡ served
@@ -47,7 +47,7 @@ now_serves media at e serves = subst (λ l. Serves media (turned l at) e) (sym (
 module _ {V I W : Type 0} (media : MediaOutside V) where
   -- so much was entered and given as the workers' numbers say
   now_is : (at : At) (p : Pair V I W) → IsPrefix at.served p.edition.edits → IsServing at.begun.session at.served p.butler → HasEntered at p → at_now at.begun at.header p ≡ at
-  now_is at p first serving entered = same_at at (take p.butler.entered p.edition.edits) (take p.played p.edition.edits)
+  now_is at p first serving entered = same_at at (take p.butler.entered p.edition.edits) (given_last p)
       (entered_are at.begun.session at.served p.edition.edits p.butler first serving) (sym entered.played)
 
   -- the workers run by these lists,

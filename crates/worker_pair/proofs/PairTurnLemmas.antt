@@ -31,7 +31,7 @@ module _ {V I W : Type 0} (media : MediaOutside V) (inputs : SourceOutside I) (s
     (meet : EndsMeet p.process.ends b.ends ours theirs) where
   -- the pair after it
   abbrev pub turned_pair : ButlerState V → ProcessState I W → Pair V I W
-  turned_pair c q = record { edition = p.edition; playing = p.playing; in_cycle = p.in_cycle; butler = c; process = q; acks = p.acks; played = p.played }
+  turned_pair c q = record { edition = p.edition; playing = p.playing; in_cycle = p.in_cycle; butler = c; process = q; acks = p.acks }
 
   -- by its butler and its process
   by_both : (P : Pair V I W → Type 0) (c : ButlerState V) (q : ProcessState I W) → c ≡ record b { ends = theirs } → q ≡ record p.process { ends = ours } →

@@ -51,7 +51,7 @@ module _ {V I W : Type 0} (media : MediaOutside V) (inputs : SourceOutside I) (s
       room = was.room;
       unended = was.unended;
       few = was.few;
-      played = was.played ∙ sym (take-append-le p.played p.edition.edits (edit ∷ []) (omega (arith, was.few, begins_length p.playing.edits p.edition.edits was.begins))) ∙ ap (take p.played) (sym more);
+      played = was.played ∙ sym (take-append-le p.process.entered p.edition.edits (edit ∷ []) (omega (arith, was.few, begins_length p.playing.edits p.edition.edits was.begins))) ∙ ap (take p.process.entered) (sym more);
     };
     control = record { ring = rests.control.ring; none_taken = rests.control.none_taken; heads = rests.control.heads };
     promises = rests.promises;

@@ -1,5 +1,5 @@
 -- What the workers have when they begin.
-use Rattle.std.proofs.Common.{◌≡◌, ℕ, zero, suc, ◌≤◌, List, [], ◌++◌, length, refl, sym, ap, subst, ◌∙◌, arith, append-nil}
+use Rattle.std.proofs.Common.{◌≡◌, ℕ, zero, suc, ◌≤◌, List, [], ◌++◌, length, take, refl, sym, ap, subst, ◌∙◌, arith, append-nil}
 use Rattle.std.specs.Prelude.{Bool, true, false, map, replicate, reverse, slice_get, Some, All, codes}
 use Rattle.std.specs.List.{list_all}
 use Rattle.std.proofs.lemmas.Bool.{false≢true}
@@ -105,7 +105,7 @@ module _ {V I W : Type 0} (s : Session) (start : Start V I W) (may : MayBegin s 
     at = at_first begun
 
     abbrev pair : Pair V I W
-    pair = record { edition = e; playing = copy; in_cycle = false; butler = b; process = p; acks = w.acks; played = 0 }
+    pair = record { edition = e; playing = copy; in_cycle = false; butler = b; process = p; acks = w.acks }
 
     -- no edit has come
     no_edits : e.edits ≡ []
@@ -155,8 +155,8 @@ module _ {V I W : Type 0} (s : Session) (start : Start V I W) (may : MayBegin s 
         forms = ap (list_all keeps_forms) no_edits;
         room = λ on. absurd (false≢true on);
         unended = λ on. absurd (false≢true on);
-        few = omega arith;
-        played = refl;
+        few = omega (arith, have.process.playing.entered);
+        played = sym (ap (λ n. take n e.edits) have.process.playing.entered);
       };
       control = record {
         ring = by_ends (λ ours theirs. w.acks.ring ≡ ours.to_control.ring) (new_fit s w new).control;
@@ -214,7 +214,7 @@ module _ {V I W : Type 0} (s : Session) (start : Start V I W) (may : MayBegin s 
       edition = have.edition;
       playing = same;
       in_cycle = refl;
-      played = refl;
+      played = have.process.playing.entered;
       entered = have.serving.entered;
       none_read = have.given.no_read_failed;
       none_written = have.given.no_write_failed;
@@ -231,8 +231,8 @@ module _ {V I W : Type 0} (s : Session) (start : Start V I W) (may : MayBegin s 
 pub have_begun_by : {V I W : Type 0} (media : MediaOutside V) (inputs : SourceOutside I) (sinks : SinkOutside W) (begun : Begun) (start : Start V I W) (may : MayBegin begun.session start) →
     IsBegunBy media inputs sinks begun start → (w : RunEnds) → AreNewRunEnds begun.session w → (e : Edition) (p : Process I W) (b : Butler V) →
     HaveWorkers media inputs sinks begun.session start w.process w.butler e p b → (copy : Edition) → copy ≡ start.edition →
-    HaveBegun media inputs sinks begun start (record { edition = e; playing = copy; in_cycle = false; butler = b; process = p; acks = w.acks; played = 0 })
+    HaveBegun media inputs sinks begun start (record { edition = e; playing = copy; in_cycle = false; butler = b; process = p; acks = w.acks })
 have_begun_by media inputs sinks begun start may by w new e p b have copy same =
-    subst (λ (z : Begun). HaveBegun media inputs sinks z start (record { edition = e; playing = copy; in_cycle = false; butler = b; process = p; acks = w.acks; played = 0 })) (sym by.told)
+    subst (λ (z : Begun). HaveBegun media inputs sinks z start (record { edition = e; playing = copy; in_cycle = false; butler = b; process = p; acks = w.acks })) (sym by.told)
     (have_begun begun.session start may media inputs sinks w new e p b have copy same begun.records
     (λ on tells. subst (λ (f : Files). MayRecord begun.session f start.sources.opened) (ap (λ (z : Begun). z.files) by.told) (by.may_record on tells)))

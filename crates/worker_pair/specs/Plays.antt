@@ -1,5 +1,5 @@
 -- What the process does in a pair: each of its calls, and a meeting of the ends after it.
-use Rattle.std.specs.Prelude.{◌≡◌, true, false, length, Result, OnOk, OnErr}
+use Rattle.std.specs.Prelude.{◌≡◌, true, false, Result, OnOk, OnErr}
 use Rattle.ses_io.specs.Outside.{MediaOutside, SourceOutside, SinkOutside}
 use Rattle.process_cycle.specs.declared.fault.CycleFault.{CycleFault}
 use Rattle.process_cycle.specs.Cycles.{MakesEntry, CycleReads, CycleWrites, HasStopped, next_bytes}
@@ -28,7 +28,7 @@ module _ {V I W : Type 0} where
     pub looks : LooksAtAll old.playing old.process process
     pub keeps : Keeps old.process process
     pub met : MeetsAfter old process new
-    pub same : new ≡ record old { butler = new.butler; process = new.process; played = length old.playing.edits }
+    pub same : new ≡ record old { butler = new.butler; process = new.process }
 
   -- A cycle may be made: one is open, and the process has looked at each track in its edition.
   pub record MayCycle (media : MediaOutside V) (inputs : SourceOutside I) (sinks : SinkOutside W) (at : At) (p : Pair V I W) : Type 0 where

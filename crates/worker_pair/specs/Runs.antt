@@ -1,8 +1,9 @@
 -- What is so of the workers between two steps, whatever their calls have answered.
-use Rattle.std.specs.Prelude.{◌≡◌, ◌<◌, ◌≤◌, Bool, true, false, [], length, take, All}
+use Rattle.std.specs.Prelude.{◌≡◌, ◌<◌, ◌≤◌, Bool, true, false, List, [], length, take, All}
 use Rattle.std.specs.List.{list_all}
 use mathlib.Core.List.{IsPrefix}
 use Rattle.ses_io.specs.Outside.{MediaOutside, SourceOutside, SinkOutside}
+use Rattle.session_model.specs.declared.edit.Edit.{Edit}
 use Rattle.engine_model.specs.Edits.{keeps_forms}
 use Rattle.edition_log.specs.EditionState.{IsEditionOf}
 use Rattle.butler.specs.Serving.{IsServing, IsTrueTo}
@@ -38,6 +39,10 @@ pub record Serves {V : Type 0} (media : MediaOutside V) (at : At) (e : Ending V)
   pub true_to : media.tells → IsTrueTo at.begun.files at.begun.session at.served e.butler
 
 module _ {V I W : Type 0} where
+  -- the edits of the edition in which the process looked last, by its own number
+  abbrev pub given_last : Pair V I W → List Edit
+  given_last p = take p.process.entered p.edition.edits
+
   -- The process has an edition of its own, in which a cycle may be open.
   pub record HasEntered (at : At) (p : Pair V I W) : Type 0 where
     -- it is one of the session, and the newest goes on from it; an edit may follow, unless it has quit
@@ -50,9 +55,9 @@ module _ {V I W : Type 0} where
     -- a cycle is open only where there is room for its entry, in an edition that hasn't quit
     pub room : p.in_cycle ≡ true → length p.process.journal.items < p.process.journal.room
     pub unended : p.in_cycle ≡ true → p.playing.transport.quit ≡ false
-    -- it looked last in an edition with so many of these edits as the pair says
-    pub few : p.played ≤ length p.playing.edits
-    pub played : at.played ≡ take p.played p.edition.edits
+    -- it looked last in an edition with so many of these edits as it says
+    pub few : p.process.entered ≤ length p.playing.edits
+    pub played : at.played ≡ given_last p
 
   -- Control has the other end of its own ring, from which it takes nothing.
   pub record HasControl (p : Pair V I W) : Type 0 where
@@ -84,6 +89,6 @@ module _ {V I W : Type 0} where
   abbrev pub HearsInput : SourceOutside I → At → Pair V I W → Type 0
   HearsInput inputs at p = Hears inputs.tells (sound_of (playing_at at) p.process) at.begun.session (entries_of p.process) p.process.ends.takes.items
 
-  -- the lists as the pair's own numbers say them
+  -- the lists as the workers' own numbers say them
   abbrev pub at_now : Begun → Bool → Pair V I W → At
-  at_now begun header p = record { begun = begun; header = header; served = take p.butler.entered p.edition.edits; played = take p.played p.edition.edits }
+  at_now begun header p = record { begun = begun; header = header; served = take p.butler.entered p.edition.edits; played = given_last p }

@@ -68,7 +68,7 @@ pub record HaveBegun {V I W : Type 0} (media : MediaOutside V) (inputs : SourceO
   pub edition : p.edition ≡ start.edition
   pub playing : p.playing ≡ start.edition
   pub in_cycle : p.in_cycle ≡ false
-  pub played : p.played ≡ 0
+  pub played : p.process.entered ≡ 0
   pub entered : p.butler.entered ≡ 0
   pub none_read : p.butler.read_failed ≡ false
   pub none_written : p.butler.write_failed ≡ false

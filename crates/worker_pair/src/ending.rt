@@ -49,7 +49,6 @@ impl<M: Media, I: Source, W: Sink> Pair<M, I, W> {
             butler,
             process,
             mut acks,
-            played: _,
         } = self;
         let ProcessParts {
             input,

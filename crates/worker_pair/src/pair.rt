@@ -26,8 +26,6 @@ pub struct Pair<M: Media, I: Source, W: Sink> {
     pub process: Process<I, W>,
     /// The end that takes what control is told. Control takes nothing.
     pub acks: RingOut<Ack>,
-    /// The number of the edition in which the process looked last.
-    pub played: u32,
 }
 
 impl<M: Media, I: Source, W: Sink> Pair<M, I, W> {
@@ -62,7 +60,6 @@ impl<M: Media, I: Source, W: Sink> Pair<M, I, W> {
             butler,
             process,
             acks,
-            played: 0,
         })
     }
 }

@@ -49,7 +49,6 @@ impl<M: Media, I: Source, W: Sink> Pair<M, I, W> {
         ensures looks { Looks self.old self.new }
         ensures as_machine { LooksAsMachine at.begun.session self.old self.new }
     {
-        self.played = self.playing.number();
         self.process.look(&self.playing);
         self.meet();
     }

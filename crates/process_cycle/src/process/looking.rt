@@ -37,6 +37,7 @@ impl<I: Source, W: Sink> Process<I, W> {
             self.playbacks.as_mut_slice(),
             at,
         );
+        self.entered = e.number();
         self.generation = at.generation;
         self.next = at.next;
     }

@@ -29,7 +29,7 @@ pub returns-clause-runs : goal.returns-clause-runs
 returns-clause-runs g c = let M = g.M.Media.outside in let I = g.I.Source.outside in let W = g.W.Sink.outside in let self = c.args.self.now in let runs = c.requires.1.1.1.0 in let look = c.look.ensures in
     let q = c.look.new.self in let r = c.meet.new.self in let ours = r.process.ends in let theirs = r.butler.ends in let meets = c.meet.ensures.meets in let place = playing_at (looked self.playing.edits g.at) in
     let whole : r ≡ left.after_look M I W g.at self runs q look.keeps look.looks look.playing ours theirs meets.ends =
-    left.whole M I W g.at self runs q look.keeps look.looks look.playing ours theirs meets.ends r c.number-self.result c.meet.ensures.same meets.butler meets.process_is c.number-self.ensures.number in
+    left.whole M I W g.at self runs q look.keeps look.looks look.playing ours theirs meets.ends r c.meet.ensures.same meets.butler meets.process_is in
     subst (Runs M I W (looked self.playing.edits g.at)) (sym whole) (left.runs_looked M I W g.at self runs q look.keeps look.looks look.playing ours theirs meets.ends
     (subst (IsPlaying I place) meets.process_is (c.meet.ensures.playing look.playing))
     (λ head. subst (IsMastered W place) meets.process_is (c.meet.ensures.master (look.master (runs.mastered head)))))
@@ -41,12 +41,12 @@ pub returns-clause-looks : goal.returns-clause-looks
 returns-clause-looks g c = let M = g.M.Media.outside in let I = g.I.Source.outside in let W = g.W.Sink.outside in let self = c.args.self.now in let runs = c.requires.1.1.1.0 in let look = c.look.ensures in
     let q = c.look.new.self in let r = c.meet.new.self in let ours = r.process.ends in let theirs = r.butler.ends in let meets = c.meet.ensures.meets in
     let whole : r ≡ left.after_look M I W g.at self runs q look.keeps look.looks look.playing ours theirs meets.ends =
-    left.whole M I W g.at self runs q look.keeps look.looks look.playing ours theirs meets.ends r c.number-self.result c.meet.ensures.same meets.butler meets.process_is c.number-self.ensures.number in
+    left.whole M I W g.at self runs q look.keeps look.looks look.playing ours theirs meets.ends r c.meet.ensures.same meets.butler meets.process_is in
     subst (Looks self) (sym whole) (left.looks_so M I W g.at self runs q look.keeps look.looks look.playing ours theirs meets.ends)
 
 pub returns-clause-as_machine : goal.returns-clause-as_machine
 returns-clause-as_machine g c = let M = g.M.Media.outside in let I = g.I.Source.outside in let W = g.W.Sink.outside in let self = c.args.self.now in let runs = c.requires.1.1.1.0 in let look = c.look.ensures in
     let q = c.look.new.self in let r = c.meet.new.self in let ours = r.process.ends in let theirs = r.butler.ends in let meets = c.meet.ensures.meets in
     let whole : r ≡ left.after_look M I W g.at self runs q look.keeps look.looks look.playing ours theirs meets.ends =
-    left.whole M I W g.at self runs q look.keeps look.looks look.playing ours theirs meets.ends r c.number-self.result c.meet.ensures.same meets.butler meets.process_is c.number-self.ensures.number in
+    left.whole M I W g.at self runs q look.keeps look.looks look.playing ours theirs meets.ends r c.meet.ensures.same meets.butler meets.process_is in
     subst (LooksAsMachine g.at.begun.session self) (sym whole) (λ core tied. left.looks_as_machine M I W g.at self runs q look.keeps look.looks look.playing ours theirs meets.ends core tied c.requires.1.1.1.1)
