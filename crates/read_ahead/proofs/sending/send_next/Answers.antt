@@ -1,6 +1,8 @@
-use Rattle.std.proofs.Common.{◌≡◌, ◌∙◌, sym, ap, subst, refl, rules, arith, true, false, true≢false, inl, inr}
+use Rattle.std.proofs.Common.{◌≡◌, ◌∙◌, sym, ap, subst, refl, rules, arith, true, false, true≢false, inl, inr, length, Box}
 use Rattle.std.proofs.lemmas.Grind.{common_steps}
 use Rattle.std.specs.Prelude.{Some, IsSomeAnd}
+use Rattle.std.specs.Global.{Global}
+use Rattle.disk_ring.specs.Sender.{Sender}
 use Rattle.audio_source.specs.Told.{source_sound}
 use Rattle.piece_item.specs.declared.item.Item.{Item}
 use Rattle.piece_item.specs.declared.kind.Kind.{Kind}
@@ -103,3 +105,11 @@ returns-in-Err-clause-at_hand g c = λ hand. not_at_hand (needs_of (target_of c.
       | then-supply v ↦ grind (arith, common_steps, v.value-is, v.eq.ensures, v.deref.ensures, same)
       | else-supply v ↦ absurd (true≢false (sym made ∙ v.if-supply.false))
     ]) (search rules) hand
+
+pub returns-in-Err-put-clause-answer : goal.returns-in-Err-put-clause-answer
+returns-in-Err-put-clause-answer g c = let refuses = c.in-Err-put.ensures.answer.1 in let needs = needs_of (target_of c.args.pass.now c.args.track) in let p = c.args.supply.now in
+    let kind : c.if-not-eq.item.value.kind ≡ c.in-Some.kind = elim c.if-not-eq.branch [ then-not-eq+in_default-fill w ↦ search rules | else-not-eq w ↦ search rules ] in
+    let stays : c.if-not-eq.supply.progress ≡ p.progress = elim c.if-not-eq.branch [ then-not-eq+in_default-fill w ↦ ap (λ z. z.progress) w.supply-is | else-not-eq w ↦ ap (λ z. z.progress) w.supply-is ] in
+    let due = ap (now_due needs) stays ∙ ap (λ (w : TrackTarget). now_due (needs_of w) p.progress) (sym c.of-target.ensures.those) ∙ sym c.in-Some.ensures.due
+    ∙ ap (λ (k : Kind). Some (kind_of k)) (sym kind) ∙ ap (λ (b : Box Item Global). Some (kind_of b.value.kind)) (sym c.in-Err-put.ensures.answer.0) in
+    (ap (λ (z : Sender Item). length z.sent) refuses.heads, inl (search rules, record { made = refl; due = due }))
