@@ -63,12 +63,8 @@ given_in_part run rings taking files (Err e) err cut = cut
 writes_nothing_cause : {V T : Type 0} (outside : MediaOutside V) (now : V) (x : T) → WriteCause {E = WriteFault} outside now now (Ok x)
 writes_nothing_cause outside now x = record { later = omega arith; kept = refl; rose = tt }
 
--- no block was taken
-pub writes_none : {V T : Type 0} (outside : MediaOutside V) (s : Session) (xs ys : List Ring) (now : V) (x : T) → WritesTakes {T = T} outside s xs ys now now (Ok x)
-writes_none outside s xs ys now x = record { others = λ tells q other. refl; same = λ same. refl; cause = writes_nothing_cause outside now x; reads = refl }
-
 pub writes_nothing : {V T : Type 0} (outside : MediaOutside V) (s : Session) (rings : List Ring) (now : V) (x : T) → WritesTakes {T = T} outside s rings rings now now (Ok x)
-writes_nothing outside s rings now x = writes_none outside s rings rings now x
+writes_nothing outside s rings now x = record { others = λ tells q other. refl; same = λ same. refl; cause = writes_nothing_cause outside now x; reads = refl }
 
 cause_then : {V T U : Type 0} (outside : MediaOutside V) (a b c : V) (x : U) (r : Result T WriteFault) → WriteCause {E = WriteFault} outside a b (Ok x) → WriteCause outside b c r → WriteCause outside a c r
 cause_then outside a b c x (Ok y) one two = record { later = le_trans one.later two.later; kept = two.kept ∙ one.kept; rose = tt }
