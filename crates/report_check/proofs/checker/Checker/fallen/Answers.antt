@@ -1,13 +1,12 @@
-use Rattle.std.proofs.Common.{◌≡◌, ◌≤◌, ◌+◌, ◌∙◌, arith, length, rules, sym, subst, suc}
+use Rattle.std.proofs.Common.{◌≡◌, ◌+◌, ◌∙◌, arith, rules, sym, subst, suc}
 use Rattle.std.specs.Prelude.{Some, slice_get, true, false}
 use Rattle.std.proofs.lemmas.Grind.{common_steps}
-use Rattle.std.proofs.lemmas.List.{length-map}
 use Rattle.std.proofs.lemmas.Option.{gets}
 use Rattle.ses_io.specs.Files.{content}
 use Rattle.cycle_journal.specs.JournalView.{seen_entries, seen_entry}
 use Rattle.track_render.proofs.ReadLemmas.{read_on, went}
 use Rattle.report_check.specs.Checking.{HasChecked, samples_read}
-use Rattle.report_check.proofs.EntryLemmas.{IsPassed, all_passed, falls_here, passes, seen_at}
+use Rattle.report_check.proofs.EntryLemmas.{IsPassed, falls_here, passes, seen_at}
 use Rattle.report_check.proofs.LoopLemmas.{one_done, stands_on, told_later}
 use Rattle.report_check.proofs.checker.Checker.fallen.Goals as goal
 
@@ -37,8 +36,3 @@ loop-c-preserved g c = let l = c.loop-c in let outside = g.M.Media.outside in le
           (sym (stands_on outside c.args.media.now l.media c.args.sources.now l.sources went read s edits c.args.master.now entries l.c (seen_entry e))
           ∙ sym (c.in_ok-entry_stands.ensures.told (told_later outside c.args.media.now l.media c.args.sources.now l.sources went read s edits c.args.master.now t)) ∙ stood));
     }
-
-pub returns-clause-told : goal.returns-clause-told
-returns-clause-told g c = λ t. let l = c.loop-c in let s = c.args.s.now in let edits = c.args.history.now.edits in let entries = c.args.entries.now in
-    let past : length (seen_entries entries) ≤ l.c = omega (arith, c.loop-c-test.false, length-map entries seen_entry) in
-    sym (all_passed s edits (samples_read (g.M.Media.outside.files c.args.media.now) c.args.sources.now s edits) (content (g.M.Media.outside.files c.args.media.now) c.args.master.now) (seen_entries entries) l.c past (l.invariant.passed t))
