@@ -1,9 +1,8 @@
 //! The accepted edits of a run, and what each of them changes of the session.
-ghost use Rattle.std.specs.Prelude.{◌≡◌, ◌≤◌, All, IsTrue, IfOk, [], false, length, map};
+ghost use Rattle.std.specs.Prelude.{◌≡◌, ◌≤◌, All, IsTrue, IfOk, length, map};
 ghost use Rattle.session_model.specs.Valid.{IsValid};
 ghost use Rattle.engine_model.specs.Edits.{keeps_forms};
 ghost use Rattle.session_change.specs.Change.{change_seen};
-ghost use Rattle.edition_log.specs.EditionState.{IsEditionOf};
 ghost use Rattle.edit_history.specs.History.{HistoryState, IsHistoryOf, NamesFirst};
 
 use crate::step::step;
@@ -56,62 +55,6 @@ impl From<NoMemory> for HistoryRefusal {
     }
 }
 
-// The edition that a session is opened with.
-fn opened(alloc: Global, s: &Session) -> Result<Edition, NoMemory>
-    requires { IsValid s.now }
-    ensures of { IfOk result (λ e. IsEditionOf e.session e) }
-    ensures first { IfOk result (λ e. (e.session ≡ s.now) × (e.edits ≡ []) × (e.ended ≡ false)) }
-{
-    Edition::opening(alloc, s.try_clone(alloc)?)
-}
-
-// Takes the edits in, in their order, and notes what each of them changes.
-fn take_all(
-    now: &mut Edition,
-    edits: &[Edit],
-    changes: &mut FixedList<Change>,
-) -> Result<(), HistoryRefusal>
-    requires of { IsEditionOf now.old.session now.old }
-    requires first { (now.old.edits ≡ []) × (now.old.ended ≡ false) }
-    requires forms { All (λ e. IsTrue (keeps_forms e)) edits.now }
-    requires few { length edits.now ≤ 10000 }
-    requires room { (changes.old.items ≡ []) × (changes.old.room ≡ length edits.now) }
-    ensures history { IfOk result (λ done. IsHistoryOf now.old.session record {
-      edits = edits.now;
-      changes = map change_seen changes.new.items;
-    }) }
-    ensures refused { NamesFirst now.old.session edits.now result }
-{
-    for edit in edits {
-        let Some(change) = step(now, edit) else {
-            return Err(HistoryRefusal::Refused(now.number() + 1));
-        };
-        changes.push(change);
-    }
-    Ok(())
-}
-
-// The same from a session as it was opened.
-fn take_from(
-    alloc: Global,
-    s: &Session,
-    edits: &[Edit],
-    changes: &mut FixedList<Change>,
-) -> Result<(), HistoryRefusal>
-    requires valid { IsValid s.now }
-    requires forms { All (λ e. IsTrue (keeps_forms e)) edits.now }
-    requires few { length edits.now ≤ 10000 }
-    requires room { (changes.old.items ≡ []) × (changes.old.room ≡ length edits.now) }
-    ensures history { IfOk result (λ done. IsHistoryOf s.now record {
-      edits = edits.now;
-      changes = map change_seen changes.new.items;
-    }) }
-    ensures refused { NamesFirst s.now edits.now result }
-{
-    let mut now = opened(alloc, s)?;
-    take_all(&mut now, edits, changes)
-}
-
 // What each of the edits changes, in their order.
 fn changes_of(
     alloc: Global,
@@ -127,11 +70,15 @@ fn changes_of(
     }) }
     ensures refused { NamesFirst s.now edits.now result }
 {
+    let mut now = Edition::opening(alloc, s.try_clone(alloc)?)?;
     let mut changes = FixedList::new(alloc, edits.len() as u32)?;
-    match take_from(alloc, s, edits, &mut changes) {
-        Ok(()) => Ok(changes),
-        Err(why) => Err(why),
+    for edit in edits {
+        let Some(change) = step(&mut now, edit) else {
+            return Err(HistoryRefusal::Refused(now.number() + 1));
+        };
+        changes.push(change);
     }
+    Ok(changes)
 }
 
 impl EditHistory {
