@@ -5,19 +5,13 @@ use std::alloc::Global;
 use std::io::Eprint;
 use std::mem;
 
-// The commands, each by its first word.
-const COMMANDS: [(&str, &str); 7] = [
-    ("check", "SESSION"),
-    ("render", "SESSION FROM FRAMES"),
-    ("export", "SESSION FROM CYCLES"),
-    (
-        "play",
-        "SESSION CYCLES --serial (or --steps LETTERS, or --seed NUMBER)",
-    ),
-    ("migrate", "SESSION"),
-    ("verify", "SESSION REPORT MASTER"),
-    ("gen", "NUMBER"),
-];
+const ALL: &str = "usage: ardour_engine check SESSION
+usage: ardour_engine render SESSION FROM FRAMES
+usage: ardour_engine export SESSION FROM CYCLES
+usage: ardour_engine play SESSION CYCLES --serial (or --steps LETTERS, or --seed NUMBER)
+usage: ardour_engine migrate SESSION
+usage: ardour_engine verify SESSION REPORT MASTER
+usage: ardour_engine gen NUMBER";
 
 // Words of which one is right wherever a word may stand.
 const RIGHT: [&str; 3] = ["1", "a", "--serial"];
@@ -51,12 +45,19 @@ fn wrong_word<'a>(alloc: Global, words: &[&'a str]) -> Result<Option<&'a str>, N
     Ok(None)
 }
 
-fn tell_commands<R: Eprint>(rt: &R, verb: &str) {
-    let known = COMMANDS.iter().any(|(name, _)| *name == verb);
-    for (name, words) in COMMANDS {
-        if !known || name == verb {
-            let _ = eprintln!(rt; "usage: ardour_engine {name} {words}");
+// How the command of that first word is written, or how each is.
+fn usage_of(verb: &str) -> &'static str {
+    match verb {
+        "check" => "usage: ardour_engine check SESSION",
+        "render" => "usage: ardour_engine render SESSION FROM FRAMES",
+        "export" => "usage: ardour_engine export SESSION FROM CYCLES",
+        "play" => {
+            "usage: ardour_engine play SESSION CYCLES --serial (or --steps LETTERS, or --seed NUMBER)"
         }
+        "migrate" => "usage: ardour_engine migrate SESSION",
+        "verify" => "usage: ardour_engine verify SESSION REPORT MASTER",
+        "gen" => "usage: ardour_engine gen NUMBER",
+        _ => ALL,
     }
 }
 
@@ -76,5 +77,6 @@ pub(crate) fn tell<R: Eprint>(rt: &R, alloc: Global, words: &[&str]) {
         Some(verb) => *verb,
         None => "",
     };
-    tell_commands(rt, verb);
+    let usage = usage_of(verb);
+    let _ = eprintln!(rt; "{usage}");
 }
