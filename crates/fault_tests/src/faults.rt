@@ -105,23 +105,23 @@ const CHECK: Row = Row {
 // A row, an object, and how many calls of it a run makes: before it is played one that finds an empty input or four for the head of one,
 // and then for the master's header and each of its blocks, for each block of an input that there is, for each reply, and for a report that
 // is short. Of the media two for the session, its size and its text, five for the source, its size and the four parts of its head, and of a
-// play one more, for takes that are there; then two for the source's one line, the second of which finds its end, and of a take one for the
+// play one more, for takes that are there; then one for the source's one line, which has as many frames as its head tells, and of a take one for the
 // header of no blocks, one for each block, one for the header of the first block, and one for that of all.
 const TABLE: &[(Row, Object, u32, u32)] = &[
     (EXPORT, Object::Input, 1, 0),
     (EXPORT, Object::Control, 0, 0),
     (EXPORT, Object::Master, 0, 3),
     (EXPORT, Object::Out, 0, 1),
-    (EXPORT, Object::Media, 7, 2),
+    (EXPORT, Object::Media, 7, 1),
     (CHECK, Object::Media, 7, 0),
     (WAIT_THEN_LOCATE, Object::Input, 1, 0),
     (WAIT_THEN_LOCATE, Object::Master, 0, 3),
     (WAIT_THEN_LOCATE, Object::Out, 0, 6),
-    (WAIT_THEN_LOCATE, Object::Media, 8, 2),
+    (WAIT_THEN_LOCATE, Object::Media, 8, 1),
     (ONE_TAKE, Object::Input, 4, 2),
     (ONE_TAKE, Object::Master, 0, 3),
     (ONE_TAKE, Object::Out, 0, 4),
-    (ONE_TAKE, Object::Media, 8, 7),
+    (ONE_TAKE, Object::Media, 8, 6),
 ];
 
 #[test]
