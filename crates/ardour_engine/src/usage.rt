@@ -1,4 +1,4 @@
-//! What standard error shows where the words are no command: the word that is wrong, and what may stand there.
+//! What standard error shows where the words are no command: the wrong word, and what may stand.
 use command_words::command;
 use ses_io::NoMemory;
 use std::alloc::Global;
@@ -8,7 +8,7 @@ use std::mem;
 const ALL: &str = "usage: ardour_engine check SESSION
 usage: ardour_engine render SESSION FROM FRAMES
 usage: ardour_engine export SESSION FROM CYCLES
-usage: ardour_engine play SESSION CYCLES --serial (or --steps LETTERS, or --seed NUMBER)
+usage: ardour_engine play SESSION CYCLES --serial|--steps LETTERS|--seed NUMBER
 usage: ardour_engine migrate SESSION
 usage: ardour_engine verify SESSION REPORT MASTER
 usage: ardour_engine gen NUMBER";
@@ -52,7 +52,7 @@ fn usage_of(verb: &str) -> &'static str {
         "render" => "usage: ardour_engine render SESSION FROM FRAMES",
         "export" => "usage: ardour_engine export SESSION FROM CYCLES",
         "play" => {
-            "usage: ardour_engine play SESSION CYCLES --serial (or --steps LETTERS, or --seed NUMBER)"
+            "usage: ardour_engine play SESSION CYCLES --serial|--steps LETTERS|--seed NUMBER"
         }
         "migrate" => "usage: ardour_engine migrate SESSION",
         "verify" => "usage: ardour_engine verify SESSION REPORT MASTER",
