@@ -1,0 +1,5 @@
+//! Worked rows of the ring of grants.
+#![tactic(auto)]
+
+#[cfg(test)]
+mod rows;
