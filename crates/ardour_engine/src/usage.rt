@@ -45,19 +45,33 @@ fn wrong_word<'a>(alloc: Global, words: &[&'a str]) -> Result<Option<&'a str>, N
     Ok(None)
 }
 
-// How the command of that first word is written, or how each is.
-fn usage_of(verb: &str) -> &'static str {
+// How the command of that first word is written, if it is one.
+fn usage_of(verb: &str) -> Option<&'static str> {
     match verb {
-        "check" => "usage: ardour_engine check SESSION",
-        "render" => "usage: ardour_engine render SESSION FROM FRAMES",
-        "export" => "usage: ardour_engine export SESSION FROM CYCLES",
-        "play" => {
-            "usage: ardour_engine play SESSION CYCLES --serial|--steps LETTERS|--seed NUMBER"
-        }
-        "migrate" => "usage: ardour_engine migrate SESSION",
-        "verify" => "usage: ardour_engine verify SESSION REPORT MASTER",
-        "gen" => "usage: ardour_engine gen NUMBER",
-        _ => ALL,
+        "check" => Some("usage: ardour_engine check SESSION"),
+        "render" => Some("usage: ardour_engine render SESSION FROM FRAMES"),
+        "export" => Some("usage: ardour_engine export SESSION FROM CYCLES"),
+        "play" => Some(
+            "usage: ardour_engine play SESSION CYCLES --serial|--steps LETTERS|--seed NUMBER",
+        ),
+        "migrate" => Some("usage: ardour_engine migrate SESSION"),
+        "verify" => Some("usage: ardour_engine verify SESSION REPORT MASTER"),
+        "gen" => Some("usage: ardour_engine gen NUMBER"),
+        _ => None,
+    }
+}
+
+// How commands are written: that of the first word, or all where it is no command.
+fn tell_usage<R: Eprint>(rt: &R, words: &[&str]) {
+    let Some(verb) = words.first() else {
+        let _ = eprintln!(rt; "{ALL}");
+        return;
+    };
+    if let Some(usage) = usage_of(verb) {
+        let _ = eprintln!(rt; "{usage}");
+    } else {
+        let _ = eprintln!(rt; "{verb:?} is no command");
+        let _ = eprintln!(rt; "{ALL}");
     }
 }
 
@@ -73,10 +87,5 @@ fn tell_word<R: Eprint>(rt: &R, alloc: Global, words: &[&str]) {
 /// Tells why the words aren't carried out, as far as memory is there for it.
 pub(crate) fn tell<R: Eprint>(rt: &R, alloc: Global, words: &[&str]) {
     tell_word(rt, alloc, words);
-    let verb = match words.first() {
-        Some(verb) => *verb,
-        None => "",
-    };
-    let usage = usage_of(verb);
-    let _ = eprintln!(rt; "{usage}");
+    tell_usage(rt, words);
 }
