@@ -7,3 +7,4 @@ pub mod TryLemmas
 pub mod GrantingLemmas
 pub mod PaceLemmas
 pub mod PatienceLemmas
+pub mod WaitedLemmas

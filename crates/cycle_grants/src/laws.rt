@@ -3,6 +3,7 @@ ghost use Rattle.cycle_grants.specs.Allowed.{AllowancesAreKept, AnEntryFollows};
 ghost use Rattle.cycle_grants.specs.Allowed.{AwaitingKeepsAllowances, NoEntryIsAllowedYet};
 ghost use Rattle.cycle_grants.specs.Granting.{GrantsAreAsked, PacesGoOn, TheLastGrantIsFull};
 ghost use Rattle.cycle_grants.specs.Patience.{FurtherLooks, LookedStands, OneMoreIsLookedFor};
+ghost use Rattle.cycle_grants.specs.Patience.{WaitedForStands, WaitedForWithItsEntry};
 
 /// A process that made no entry yet has kept its allowances.
 #[tactic(auto, using(crate::proofs::AllowedLemmas::no_entry_is_allowed_yet))]
@@ -61,4 +62,16 @@ pub fn one_more_is_looked_for()
 #[tactic(auto, using(crate::proofs::PatienceLemmas::looked_stands))]
 pub fn looked_stands()
     ensures { LookedStands }
+{}
+
+/// The pieces that weren't there stay looked for with patience as edits come, and more is received and looked for.
+#[tactic(auto, using(crate::proofs::WaitedLemmas::waited_for_stands))]
+pub fn waited_for_stands()
+    ensures { WaitedForStands }
+{}
+
+/// So they are with the entry of a cycle whose looks were made with patience.
+#[tactic(auto, using(crate::proofs::WaitedLemmas::waited_for_with_its_entry))]
+pub fn waited_for_with_its_entry()
+    ensures { WaitedForWithItsEntry }
 {}

@@ -1,0 +1,2 @@
+-- Why looks are made with patience.
+pub mod PatientLemmas

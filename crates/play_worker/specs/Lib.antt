@@ -1,0 +1,2 @@
+-- What contracts see of the looks of a cycle.
+pub mod Patient
