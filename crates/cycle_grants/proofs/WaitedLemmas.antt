@@ -1,6 +1,6 @@
 -- The pieces of a track that weren't there, as a process looks for them.
-use Rattle.std.proofs.Common.{◌≡◌, inl, inr, ℕ, suc, ◌+◌, ◌-◌, ◌<◌, ◌≤◌, List, [], ◌∷◌, ◌++◌, length, refl, sym, ap, ◌∙◌, subst, arith, length-append}
-use Rattle.std.specs.Prelude.{◌⊎◌, Bool, true, false, ◌&&◌, nat_le, nat_lt, if◌then◌else◌, reverse, slice_get, Some}
+use Rattle.std.proofs.Common.{◌≡◌, inl, inr, ℕ, suc, ◌-◌, List, [], ◌∷◌, ◌++◌, length, refl, sym, ap, ◌∙◌, subst, arith}
+use Rattle.std.specs.Prelude.{Bool, true, false, ◌&&◌, nat_le, nat_lt, if◌then◌else◌, reverse, slice_get, Some}
 use Rattle.std.specs.List.{list_all}
 use Rattle.std.proofs.lemmas.Bool.{and_from, and_parts, true≢false, le-leb, lt-ltb}
 use Rattle.std.proofs.lemmas.List.{append-nil, length-reverse, reverse-append}
@@ -10,7 +10,7 @@ use Rattle.session_model.specs.declared.edit.Edit.{Edit}
 use Rattle.engine_model.specs.Edits.{generation}
 use Rattle.engine_model.specs.Editions.{edition}
 use Rattle.engine_model.specs.Items.{Kind}
-use Rattle.engine_model.specs.Journal.{Take, State, Entry, rolled}
+use Rattle.engine_model.specs.Journal.{Take, Entry, rolled}
 use Rattle.engine_model.specs.Cycle.{entry_of, has_piece, is_held, state_of}
 use Rattle.engine_model.specs.Truth.{Miss, item_at, looked, miss_in, misses, was_held}
 use Rattle.engine_model.specs.Waited.{are_waited}

@@ -1,8 +1,7 @@
 -- Looks of one cycle, one after the other.
-use Rattle.std.proofs.Common.{◌≡◌, inl, inr, ℕ, suc, ◌+◌, ◌<◌, ◌≤◌, List, [], ◌∷◌, ◌++◌, length, refl, sym, ap, ◌∙◌, subst, arith, length-append}
-use Rattle.std.specs.Prelude.{◌⊎◌, Bool, true, false, not, ◌&&◌, map, reverse, drop, slice_get, slice_index_or, Some}
-use Rattle.std.specs.List.{list_all, list_any}
-use Rattle.std.proofs.lemmas.Bool.{and_parts, true≢false, false≢true}
+use Rattle.std.proofs.Common.{◌≡◌, inl, inr, ℕ, suc, ◌<◌, List, [], ◌∷◌, ◌++◌, length, refl, sym, ap, ◌∙◌, subst, arith, length-append}
+use Rattle.std.specs.Prelude.{◌⊎◌, Bool, true, not, map, reverse, slice_index_or}
+use Rattle.std.proofs.lemmas.Bool.{and_parts, true≢false}
 use Rattle.std.proofs.lemmas.List.{append_assoc, append_cancel_right, map-append, reverse-append}
 use Rattle.std.proofs.lemmas.List.Folds.{list_all-append}
 use Rattle.std.proofs.lemmas.Option.{get_or_from_slice_get, same_Some, slice_get_within}
@@ -16,7 +15,7 @@ use Rattle.track_playback.specs.declared.playback.SpareBox.{SpareBox}
 use Rattle.track_playback.specs.declared.playback.SpareBox.TheVariants.{Husk, Held, Lent}
 use Rattle.track_playback.specs.declared.playback.TrackPlayback.{TrackPlayback}
 use Rattle.track_playback.specs.declared.play_position.PlayPosition.{PlayPosition}
-use Rattle.track_playback.specs.SpareBoxes.{held, offers, received_items, received_kinds, HoldsTheLast}
+use Rattle.track_playback.specs.SpareBoxes.{offers, received_items, HoldsTheLast}
 use Rattle.track_playback.specs.Looks.{EndsWith, Looks, holds, holds_none}
 use Rattle.ses_io.specs.Outside.{SourceOutside}
 use Rattle.engine_model.specs.Journal.{rolled}
@@ -32,7 +31,7 @@ use Rattle.track_playback.specs.Answers.{AllThere}
 use Rattle.play_worker.specs.Patient.{AllEndAfter, AllGoOn, AllLookedFor, EndsAfter, IsHeldLast, NotedSoOften}
 
 -- what was received stands behind what is received later, the newest first
-received_on : (b c : Receiver Item) → GoesOnOut b c → (more : List engine.Item) × (received_items c ≡ more ++ received_items b)
+pub received_on : (b c : Receiver Item) → GoesOnOut b c → (more : List engine.Item) × (received_items c ≡ more ++ received_items b)
 received_on b c ring = let more = ring.received in (
   reverse (map item_of more.0),
   ap (λ l. reverse (map item_of l)) (sym more.1) ∙ ap reverse (map-append item_of b.received more.0) ∙ reverse-append (map item_of b.received) (map item_of more.0),

@@ -1,5 +1,5 @@
 -- How often a process looks for the pieces of a cycle. Lists of rings and tails stand oldest first.
-use Rattle.std.specs.Prelude.{◌≡◌, ◌⊎◌, ℕ, suc, ◌<◌, true, List, [], ◌∷◌, ◌++◌, length, slice_get, slice_index_or, Some}
+use Rattle.std.specs.Prelude.{◌≡◌, ◌⊎◌, ℕ, suc, ◌<◌, true, false, List, [], ◌∷◌, ◌++◌, length, slice_get, slice_index_or, Some}
 use Rattle.std.specs.List.{list_any}
 use Rattle.engine_model.specs.Items.{Kind}
 use Rattle.engine_model.specs.Cycle.{is_held}
@@ -14,7 +14,8 @@ use Rattle.track_playback.specs.declared.play_position.PlayPosition.{PlayPositio
 use Rattle.track_playback.specs.SpareBoxes.{received_kinds}
 use Rattle.track_playback.specs.Looks.{holds}
 use Rattle.track_playback.specs.Answers.{AllThere}
-use Rattle.process_cycle.specs.ProcessState.{ProcessState, position_of}
+use Rattle.process_cycle.specs.ProcessState.{Playing, ProcessState, entries_of, position_of}
+use Rattle.cycle_grants.specs.Patience.{IsWaitedFor}
 
 -- ---- one track
 
@@ -45,6 +46,17 @@ AllGoOn olds news = (t : ℕ) (a b : Receiver Item) → slice_get olds t ≡ Som
 abbrev pub LooksPatiently : {I W : Type 0} → ℕ → Edition → ProcessState I W → ProcessState I W → Type 0
 LooksPatiently patience e old new = e.transport.rolling ≡ true →
     AllThere (position_of new) new.ends.plays.items ⊎ ((list_any (λ r. r.ended) new.ends.plays.items ≡ true) ⊎ AllLookedFor patience (position_of new) old.ends.plays.items new.ends.plays.items)
+
+-- ---- all cycles
+
+-- no ring of pieces was answered Closed
+abbrev pub AllOpen : List (Receiver Item) → Type 0
+AllOpen plays = (t : ℕ) (r : Receiver Item) → slice_get plays t ≡ Some r → r.ended ≡ false
+
+-- **Each piece that wasn't there was looked for with patience**, unless a ring was closed.
+abbrev pub IsPatient : {I W : Type 0} → ℕ → Playing → ProcessState I W → Type 0
+IsPatient patience at p = AllOpen p.ends.plays.items → (t : ℕ) (r : Receiver Item) → slice_get p.ends.plays.items t ≡ Some r →
+    IsWaitedFor patience at.edits at.session.depth t (received_kinds r) r.tails (entries_of p)
 
 -- ---- between two looks
 

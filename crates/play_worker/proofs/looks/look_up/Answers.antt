@@ -1,4 +1,4 @@
-use Rattle.std.proofs.Common.{◌∙◌, ◌≡◌, ◌+◌, ℕ, suc, refl, sym, ap, subst, inl, inr, arith}
+use Rattle.std.proofs.Common.{◌∙◌, refl, subst, inl, inr, arith}
 use Rattle.process_cycle.specs.ProcessState.{entered}
 use Rattle.play_worker.specs.Patient.{AllEndAfter}
 use Rattle.play_worker.proofs.PatientLemmas as patient

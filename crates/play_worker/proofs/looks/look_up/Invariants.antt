@@ -1,4 +1,4 @@
-use Rattle.std.proofs.Common.{◌≡◌, ◌⊎◌, length, true}
+use Rattle.std.proofs.Common.{◌≡◌, length, true}
 use Rattle.process_cycle.specs.declared.process.Look.TheVariants.{Ready}
 use Rattle.process_cycle.specs.Looked.{HasLooked}
 use Rattle.process_cycle.specs.Playing.{IsPlaying}

@@ -1,0 +1,8 @@
+use Rattle.std.proofs.Common.{sym, subst}
+use mathlib.Core.List.{IsPrefix}
+use base.Growing.{prefix_refl}
+use Rattle.edition_log.specs.EditionState.{EditionState}
+use Rattle.play_worker.proofs.worker.newest.Goals as goal
+
+pub returns-in-Err-clause-grows : goal.returns-in-Err-clause-grows
+returns-in-Err-clause-grows g c = subst (λ (e : EditionState). IsPrefix c.args.w.reader.edition.edits e.edits) (sym c.in-Err.ensures.seen) (prefix_refl c.args.w.reader.edition.edits)
