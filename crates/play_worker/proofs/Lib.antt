@@ -2,3 +2,4 @@
 pub mod PatientLemmas
 pub mod CycleLemmas
 pub mod PlaysLemmas
+pub mod KeptLemmas

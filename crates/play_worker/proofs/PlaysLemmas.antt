@@ -26,6 +26,9 @@ use Rattle.play_worker.specs.declared.told.Told.{Told}
 use Rattle.play_worker.specs.declared.worker.PlayWorker.{PlayWorker}
 use Rattle.play_worker.specs.Cycle.{PlaysCycle}
 use Rattle.play_worker.specs.Patient.{IsPatient}
+use Rattle.play_worker.specs.Kept.{KeepsRun}
+use Rattle.play_worker.proofs.PatientLemmas.{journal_kept}
+use Rattle.play_worker.proofs.KeptLemmas.{cycle_keeps_run, looks_keep_run, run_refl, run_trans}
 use Rattle.play_worker.specs.Plays.{MayCycle, Plays, PlaysAt, RestsAt, Stops, at_now, given_last, made_by}
 
 module _ {I W : Type 0} (inputs : SourceOutside I) (sinks : SinkOutside W) (at : Playing) (patience : ℕ) (w : PlayWorker I W) (plays : PlaysAt patience inputs sinks at w) where
@@ -66,6 +69,14 @@ module _ {I W : Type 0} (inputs : SourceOutside I) (sinks : SinkOutside W) (at :
     abbrev after : PlayWorker I W
     after = record w { process = p }
 
+    kept : cycle.looked.journal ≡ w.process.journal
+    kept = journal_kept w.process cycle.looked cycle.keeps
+
+    -- its rings and what was noted stand
+    pub keeps_run : KeepsRun w.process p
+    keeps_run = run_trans w.process cycle.looked p (looks_keep_run w.process cycle.looked (cycle.playing.plays ∙ sym plays.playing.plays) cycle.rings cycle.keeps)
+        (cycle_keeps_run inputs (entered edits at) w.reader.edition cycle.looked p result cycle.made cycle.fault cycle.reads)
+
     -- where its number is that of the edition
     numbered : p.entered ≡ length edits → given_last after ≡ edits
     numbered is = ap (λ n. take n edits) is ∙ take_all (length edits) edits (omega arith)
@@ -73,7 +84,7 @@ module _ {I W : Type 0} (inputs : SourceOutside I) (sinks : SinkOutside W) (at :
     -- the entry that was made
     module _ (made : MakesEntry at.session w.reader.edition cycle.looked p) where
       items_are : seen_entries p.journal.items ≡ seen_entries w.process.journal.items ++ seen_entry made.made ∷ []
-      items_are = ap (λ j. seen_entries j.items) made.noted ∙ map-append seen_entry cycle.looked.journal.items (made.made ∷ []) ∙ ap (λ j. seen_entries j.items ++ seen_entry made.made ∷ []) cycle.kept
+      items_are = ap (λ j. seen_entries j.items) made.noted ∙ map-append seen_entry cycle.looked.journal.items (made.made ∷ []) ∙ ap (λ j. seen_entries j.items ++ seen_entry made.made ∷ []) kept
 
       in_edition : (seen_entry made.made).edition ≡ length edits
       in_edition = ap (λ (e : engine.Entry). e.edition) made.entry
@@ -83,7 +94,7 @@ module _ {I W : Type 0} (inputs : SourceOutside I) (sinks : SinkOutside W) (at :
           (subst (λ n. MayMake n w.grants) (sym (length-map w.process.journal.items seen_entry)) may.may) (let new = may.new in omega (arith, new, in_edition)))
 
       one_more : made_by after ≡ made_by w + 1
-      one_more = ap (λ j. length j.items) made.noted ∙ length-append cycle.looked.journal.items (made.made ∷ []) ∙ ap (λ j. length j.items + 1) cycle.kept
+      one_more = ap (λ j. length j.items) made.noted ∙ length-append cycle.looked.journal.items (made.made ∷ []) ∙ ap (λ j. length j.items + 1) kept
 
       plays_after : IsPlaying inputs (entered edits at) p → IsMastered sinks (entered edits at) p → PlaysAt patience inputs sinks (entered (given_last after) at) after
       plays_after playing mastered = subst (λ es. PlaysAt patience inputs sinks (entered es at) after) (sym (numbered playing.entered)) (record {
@@ -102,7 +113,7 @@ module _ {I W : Type 0} (inputs : SourceOutside I) (sinks : SinkOutside W) (at :
       begins = prefix_refl edits;
       promises = subst (λ (q : ProcessState I W). Promises (entered edits at) (entries_of q) q.ends) (sym stopped) cycle.playing.promises;
       patient = patient;
-      allowed = subst (λ j. KeepsAllowances patience (seen_entries j.items) w.grants) (sym (ap (λ (q : ProcessState I W). q.journal) stopped ∙ cycle.kept)) plays.allowed;
+      allowed = subst (λ j. KeepsAllowances patience (seen_entries j.items) w.grants) (sym (ap (λ (q : ProcessState I W). q.journal) stopped ∙ kept)) plays.allowed;
     })
 
 -- by what was answered
@@ -142,6 +153,10 @@ module _ {I W : Type 0} (inputs : SourceOutside I) (sinks : SinkOutside W) (at :
   stopped_in why is = stopped_after inputs sinks at patience w plays p may result why is (subst (λ (x : Edition). PlaysCycle inputs sinks at patience x w.process result p) same cycle)
       (subst (λ (x : Edition). IsPatient patience (entered x.edits at) p) same patient)
 
+  pub keeps_in : KeepsRun w.process p
+  keeps_in = keeps_run inputs sinks at patience w plays p may result (subst (λ (x : Edition). PlaysCycle inputs sinks at patience x w.process result p) same cycle)
+      (subst (λ (x : Edition). IsPatient patience (entered x.edits at) p) same patient)
+
   pub stops_in : (why : CycleFault) → result ≡ Err why → Stops patience inputs sinks why (record w { process = p })
   stops_in why is = record {
     before = w;
@@ -169,6 +184,10 @@ may_cycle {I} {W} w v r awaited entered_is room may new =
       may = subst (λ (p : ProcessState I W). MayMake (length p.journal.items) r.grants) (sym process) (subst (λ (a : AllowanceState). MayMake (made_by w) a) (sym grants) may);
       new = subst (λ (a : AllowanceState). newest (grants_in a.from) ≤ length r.reader.edition.edits) (sym grants) new;
     }
+
+-- where no cycle was made the process is as it was
+pub keeps_other : {I W : Type 0} (w v r : PlayWorker I W) → v ≡ record w { grants = v.grants } → r ≡ record v { reader = r.reader } → KeepsRun w.process r.process
+keeps_other {I} {W} w v r awaited entered_is = subst (KeepsRun w.process) (sym (ap (λ (x : PlayWorker I W). x.process) entered_is ∙ ap (λ (x : PlayWorker I W). x.process) awaited)) (run_refl w.process)
 
 -- by the numbers of the journal
 pub all_made : (j first second : Listed noted.Entry) (entries : List noted.Entry) (room : ℕ) → first ≡ j → entries ≡ first.items → second ≡ j → room ≡ second.room → room ≤ length entries →

@@ -1,9 +1,10 @@
 -- What one cycle of a process beside other workers does.
-use Rattle.std.specs.Prelude.{◌≡◌, ℕ, Result, OnOk, OnErr}
+use Rattle.std.specs.Prelude.{ℕ, Result, OnOk, OnErr}
 use Rattle.ses_io.specs.Outside.{SourceOutside, SinkOutside}
 use Rattle.edition_log.specs.EditionState.{EditionState as Edition}
 use Rattle.process_cycle.specs.declared.fault.CycleFault.{CycleFault}
 use Rattle.process_cycle.specs.ProcessState.{Playing, ProcessState, entered}
+use Rattle.process_cycle.specs.Looked.{Keeps}
 use Rattle.process_cycle.specs.Playing.{IsPlaying}
 use Rattle.process_cycle.specs.Cycles.{CycleReads, CycleWrites, HasStopped, MakesEntry, next_bytes}
 use Rattle.play_worker.specs.Patient.{AllGoOn, LooksPatiently}
@@ -16,7 +17,7 @@ pub record PlaysCycle {I W : Type 0} (inputs : SourceOutside I) (sinks : SinkOut
   pub playing : IsPlaying inputs (entered e.edits at) looked
   pub patient : LooksPatiently patience e old looked
   pub rings : AllGoOn old.ends.plays.items looked.ends.plays.items
-  pub kept : looked.journal ≡ old.journal
+  pub keeps : Keeps old looked
   -- its entry, what it read of the input and wrote to the master; after a fault all but these two is as it was
   pub made : OnOk result (MakesEntry at.session e looked new)
   pub reads : CycleReads inputs (entered e.edits at) looked result new

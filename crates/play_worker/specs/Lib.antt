@@ -2,3 +2,4 @@
 pub mod Patient
 pub mod Cycle
 pub mod Plays
+pub mod Kept

@@ -33,7 +33,7 @@ pub fn look_up<I: Source, W: Sink>(process: &mut Process<I, W>, e: &Edition, pat
     ensures looked { HasLooked (entered e.now.edits at) process.new }
     ensures patient { LooksPatiently patience e.now process.old process.new }
     ensures rings { AllGoOn process.old.ends.plays.items process.new.ends.plays.items }
-    ensures journal { process.new.journal ≡ process.old.journal }
+    ensures keeps { Keeps process.old process.new }
     ensures mastered { IsMastered W.outside (entered e.now.edits at) process.new }
 {
     let mut look = process.gather(e);

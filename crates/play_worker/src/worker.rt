@@ -6,6 +6,8 @@ ghost use Rattle.route_lists.specs.Lists.{IsReaderOf};
 ghost use Rattle.process_cycle.specs.ProcessState.{Playing, entered};
 ghost use Rattle.cycle_grants.specs.Grants.{grants_in, newest};
 ghost use Rattle.cycle_grants.specs.Allowed.{MayMake};
+ghost use Rattle.disk_ring.specs.Receiver.{GoesOnOut};
+ghost use Rattle.play_worker.specs.Kept.{KeepsRun};
 ghost use Rattle.play_worker.specs.Plays.{MayCycle, Plays, PlaysAt, StepLeaves, at_now, given_last, made_by};
 
 use crate::cycle::play_cycle;
@@ -44,6 +46,7 @@ fn awaited<I: Source, W: Sink>(w: PlayWorker<I, W>, patience: u64) -> PlayWorker
     ensures plays { PlaysAt patience I.outside W.outside at result }
     ensures may { MayMake (made_by w) result.grants }
     ensures same { result ≡ record w { grants = result.grants } }
+    ensures ring { GoesOnOut w.grants.from result.grants.from }
 {
     let mut w = w;
     let made = w.process.journal().entries().len() as u32;
@@ -102,6 +105,7 @@ fn in_edition<I: Source, W: Sink>(
         (entered (given_last result.0) at) result.1 result.0 }
     ensures same { result.0 ≡ record w { process = result.0.process } }
     ensures made { result.1 ≡ None → made_by result.0 ≡ made_by w + 1 }
+    ensures keeps { KeepsRun w.process result.0.process }
 {
     let PlayWorker {
         reader,
@@ -141,6 +145,8 @@ fn one<I: Source, W: Sink>(w: PlayWorker<I, W>, patience: u64) -> (PlayWorker<I,
     ensures made { result.1 ≡ None → made_by result.0 ≡ made_by w + 1 }
     ensures told { result.0.told ≡ w.told }
     ensures grows { IsPrefix w.reader.edition.edits result.0.reader.edition.edits }
+    ensures keeps { KeepsRun w.process result.0.process }
+    ensures grants { GoesOnOut w.grants.from result.0.grants.from }
 {
     if w.process.journal().entries().len() >= w.process.journal().room() as usize {
         return (w, Some(Ended::All));
@@ -161,6 +167,8 @@ pub fn cycles<I: Source, W: Sink>(w: PlayWorker<I, W>, patience: u64) -> (PlayWo
         (at_now I.outside W.outside result.0) (Some result.1) result.0 }
     ensures told { result.0.told ≡ w.told }
     ensures grows { IsPrefix w.reader.edition.edits result.0.reader.edition.edits }
+    ensures keeps { KeepsRun w.process result.0.process }
+    ensures grants { GoesOnOut w.grants.from result.0.grants.from }
 {
     let mut w = w;
     loop {

@@ -1,6 +1,7 @@
 use Rattle.std.proofs.Common.{refl, sym, subst, length, ◌<◌}
 use Rattle.ses_io.specs.FixedList.{Listed}
 use Rattle.cycle_journal.specs.declared.entry.Entry.{Entry}
+use Rattle.play_worker.proofs.PatientLemmas.{journal_kept}
 use Rattle.play_worker.proofs.CycleLemmas.{keeps_patience}
 use Rattle.play_worker.proofs.cycle.play_cycle.Goals as goal
 
@@ -14,7 +15,7 @@ cycle-requires g c κs within = let asked = c.requires.1.1.1 in let is = c.look_
       edition = asked.0.edition;
       given = refl;
       looked = is.looked;
-      room = subst (λ (j : Listed Entry). length j.items < j.room) (sym is.journal) asked.1.0;
+      room = subst (λ (j : Listed Entry). length j.items < j.room) (sym (journal_kept c.args.process.now c.look_up.new.process is.keeps)) asked.1.0;
       unended = asked.1.1.0;
     },
   ),
@@ -22,5 +23,5 @@ cycle-requires g c κs within = let asked = c.requires.1.1.1 in let is = c.look_
 
 pub returns-clause-patient : goal.returns-clause-patient
 returns-clause-patient g c = let asked = c.requires.1.1.1 in let is = c.look_up.ensures in
-    keeps_patience g.I.Source.outside g.at c.args.patience c.args.e.now c.args.process.now c.look_up.new.process c.cycle.new.self c.cycle.result asked.0.playing asked.0.more is.playing is.rings is.journal
+    keeps_patience g.I.Source.outside g.at c.args.patience c.args.e.now c.args.process.now c.look_up.new.process c.cycle.new.self c.cycle.result asked.0.playing asked.0.more is.playing is.rings (journal_kept c.args.process.now c.look_up.new.process is.keeps)
     asked.1.1.1.1 asked.0.edition is.patient c.cycle.ensures.made c.cycle.ensures.fault

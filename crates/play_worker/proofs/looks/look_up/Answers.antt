@@ -2,6 +2,7 @@ use Rattle.std.proofs.Common.{◌∙◌, refl, subst, inl, inr, arith}
 use Rattle.process_cycle.specs.ProcessState.{entered}
 use Rattle.play_worker.specs.Patient.{AllEndAfter}
 use Rattle.play_worker.proofs.PatientLemmas as patient
+use Rattle.play_worker.proofs.KeptLemmas as kept
 use Rattle.play_worker.proofs.looks.look_up.Goals as goal
 
 pub again-look-requires : goal.again-look-requires
@@ -21,7 +22,7 @@ pub loop-look-init : goal.loop-look-init
 loop-look-init g c = let is = c.gather-look.ensures in record {
   playing = is.playing;
   looked = is.looked;
-  journal = patient.journal_kept c.args.process.now c.gather-look.new.self is.keeps;
+  keeps = is.keeps;
   mastered = is.master c.requires.1.1.1.1;
   looks = patient.all_first g.I.Source.outside g.at c.args.process.now c.gather-look.new.self c.args.e.now is.looks;
   many = is.looks.many;
@@ -34,7 +35,7 @@ pub loop-look-preserved : goal.loop-look-preserved
 loop-look-preserved g c = let is = c.again-look.ensures in let so = c.loop-look.invariant in record {
   playing = is.playing;
   looked = is.looked;
-  journal = patient.journal_kept c.loop-look.process c.again-look.new.process is.keeps ∙ so.journal;
+  keeps = kept.keeps_trans c.args.process.now c.loop-look.process c.again-look.new.process so.keeps is.keeps;
   mastered = is.mastered;
   looks = subst (λ n. AllEndAfter n c.args.process.now c.again-look.new.process) (omega arith) (patient.all_more g.I.Source.outside (entered c.args.e.now.edits g.at) c.loop-look._look c.args.process.now c.loop-look.process
       c.again-look.new.process c.args.e.now so.playing is.playing is.keeps so.many so.looks is.looks);

@@ -1,6 +1,6 @@
 use Rattle.std.proofs.Common.{◌≡◌, length, true}
 use Rattle.process_cycle.specs.declared.process.Look.TheVariants.{Ready}
-use Rattle.process_cycle.specs.Looked.{HasLooked}
+use Rattle.process_cycle.specs.Looked.{HasLooked, Keeps}
 use Rattle.process_cycle.specs.Playing.{IsPlaying}
 use Rattle.process_cycle.specs.ProcessState.{entered, position_of}
 use Rattle.process_cycle.specs.Promised.{IsMastered}
@@ -18,7 +18,7 @@ abbrev pub invariant-loop-look : goal.invariant-loop-look
 invariant-loop-look g l = record {
   playing : IsPlaying g.I.Source.outside (entered l.e.edits g.at) l.process;
   looked : HasLooked (entered l.e.edits g.at) l.process;
-  journal : l.process.journal ≡ l.fn.process.journal;
+  keeps : Keeps l.fn.process l.process;
   mastered : IsMastered g.W.Sink.outside (entered l.e.edits g.at) l.process;
   looks : AllEndAfter l._look l.fn.process l.process;
   rings : AllGoOn l.fn.process.ends.plays.items l.process.ends.plays.items;

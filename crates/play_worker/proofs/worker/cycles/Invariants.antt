@@ -1,5 +1,7 @@
 use Rattle.std.proofs.Common.{◌≡◌, ◌-◌}
 use mathlib.Core.List.{IsPrefix}
+use Rattle.disk_ring.specs.Receiver.{GoesOnOut}
+use Rattle.play_worker.specs.Kept.{KeepsRun}
 use Rattle.play_worker.specs.Plays.{Plays, at_now, made_by}
 use Rattle.play_worker.proofs.worker.cycles.Given as goal
 
@@ -10,6 +12,8 @@ abbrev pub invariant-loop-end : goal.invariant-loop-end
 invariant-loop-end g l = record {
   plays : Plays l.patience g.I.Source.outside g.W.Sink.outside l.w;
   told : l.w.told ≡ l.fn.w.told;
+  keeps : KeepsRun l.fn.w.process l.w.process;
+  grants : GoesOnOut l.fn.w.grants.from l.w.grants.from;
   grows : IsPrefix l.fn.w.reader.edition.edits l.w.reader.edition.edits;
 }
 

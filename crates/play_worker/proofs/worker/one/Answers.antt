@@ -29,3 +29,6 @@ pub returns-in-Err-clause-leaves : goal.returns-in-Err-clause-leaves
 returns-in-Err-clause-leaves g c = let is = c.awaited.ensures in let new = c.in-Err.ensures in
     lemmas.by_number g.I.Source.outside g.W.Sink.outside g.at c.args.patience _
     (lemmas.plays_newest g.I.Source.outside g.W.Sink.outside g.at c.args.patience c.awaited.result _ is.plays new.same (new.reader g.at.session is.plays.reader_of) new.grows)
+
+pub returns-in-Err-clause-keeps : goal.returns-in-Err-clause-keeps
+returns-in-Err-clause-keeps g c = lemmas.keeps_other c.args.w c.awaited.result _ c.awaited.ensures.same c.in-Err.ensures.same
