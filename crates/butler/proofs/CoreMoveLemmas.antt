@@ -94,8 +94,7 @@ module _ {V : Type 0} (s : Session) (e : Edition) (old new : ButlerState V) (c :
   same_waits t r x hr hx = let d = beside T D t x core.many hx in let at = core.each t x d.0 r hx d.1 hr in λ i. nat_lt (sym at.flushed i) (sym at.put i)
 
   same_flush : (t : ℕ) → can_move s e old new (Flush t) ≡ can s old.cycles c (Flush t)
-  same_flush t = ap (λ b. not b && option_map_or waits (slice_get R t) false) core.none_written
-      ∙ same_at waits (λ (x : TrackState). nat_lt x.flushed (length x.put)) R T t (sym core.many_takes) (same_waits t)
+  same_flush t = same_at waits (λ (x : TrackState). nat_lt x.flushed (length x.put)) R T t (sym core.many_takes) (same_waits t)
 
   same_room : (d : Sender Item) (x : TrackState) (r : Receiver TakeBlock) → IsTrackOf s x d r → has_room d ≡ machine.has_room s x
   same_room d x r at = ap (λ n. nat_lt (length d.sent) (d.got + n) && nat_lt (length d.sent) (2 ^ 62)) at.depth

@@ -1,5 +1,5 @@
 -- What a turn leaves of the media, and what its faults leave, for each way that it ends.
-use Rattle.std.proofs.Common.{◌≡◌, ℕ, length, refl, sym, ap, ◌∙◌, subst, true, false, true≢false}
+use Rattle.std.proofs.Common.{◌≡◌, ℕ, length, refl, sym, ap, ◌∙◌, subst, true, false}
 use Rattle.std.specs.Prelude.{Bool, Result, Ok, Err, is_err}
 use Rattle.ses_io.specs.Files.{Files}
 use Rattle.ses_io.specs.Outside.{MediaOutside, OnlyReads}
@@ -15,6 +15,8 @@ use Rattle.capture_drain.specs.Files.{tape_of}
 use Rattle.butler.specs.declared.turning.Turn.{Turn}
 use Rattle.butler.specs.declared.faults.ButlerFault.{ButlerFault}
 use Rattle.butler.specs.declared.faults.ButlerFault.TheVariants.{ReadFault, WriteFault}
+use Rattle.capture_drain.specs.Files.{NotesFault}
+use Rattle.capture_drain.specs.State.{DrainState}
 use Rattle.butler.specs.ButlerState.{ButlerState, Served, start_of}
 use Rattle.butler.specs.Turns.{Receives, TakesAreKept, pass_of}
 use Rattle.butler.specs.Faults.{Fails, KeepsRest, HasRisen}
@@ -29,24 +31,18 @@ module _ {V : Type 0} (outside : MediaOutside V) (at : Served) (e : Edition) (mo
   abbrev cut : Result Turn ButlerFault
   cut = Err WriteFault
 
-  had_not : (failed : Bool) → b.write_failed ≡ failed → (b.write_failed ≡ false) × (f.write_failed ≡ true)
-  had_not true was = err_is_ok ((b.write_failed ≡ false) × (f.write_failed ≡ true)) (Err fault) 0 refl
-      (flushes.quiet (flushed.writes_before outside at e most b c d f accepts enters (Err fault) flushes ∙ was)).1
-  had_not false was = (was, (flushes.busy (flushed.writes_before outside at e most b c d f accepts enters (Err fault) flushes ∙ was)).0)
-
-  pub cut_takes : outside.tells → TakesAreKept at (outside.files b.media) (outside.files f.media) b cut f
+  pub cut_takes : outside.tells → TakesAreKept at (outside.files b.media) (outside.files f.media) b f
   cut_takes told was = flushed.given outside at e most b c d f accepts enters (Err fault) flushes told was
 
   pub cut_fails : Fails outside b cut f
-  cut_fails = let before = flushed.media_before outside at e most b c d f accepts enters (Err fault) flushes in let cause = flushes.media.cause in let not = had_not b.write_failed refl in record {
+  cut_fails = let before = flushed.media_before outside at e most b c d f accepts enters (Err fault) flushes in let cause = flushes.media.cause in record {
     read_failed = flushed.reads_after outside at e most b c d f accepts enters (Err fault) flushes;
-    write_failed = not.1;
+    write_failed = flushes.flag;
     reads = flushed.read_faults outside at e most b c d f accepts enters (Err fault) flushes;
     writes = subst (λ (m : V). HasRisen (outside.write_faults m) (outside.write_faults f.media)) before (record { later = cause.later; rose = cause.rose });
     no_more_sent = λ was. flushed.sends_after outside at e most b c d f accepts enters (Err fault) flushes;
-    no_more_flushed = λ was. absurd (true≢false (sym was ∙ not.0));
+    noted = flushed.noted outside at e most b c d f accepts enters (Err fault) flushes;
     read_once = λ was. (refl, flushed.sources_after outside at e most b c d f accepts enters (Err fault) flushes, flushed.media_stands outside at e most b c d f accepts enters (Err fault) flushes);
-    write_once = λ was. absurd (true≢false (sym was ∙ not.0));
   }
 
   pub cut_rest : KeepsRest outside at.session e b f
@@ -85,8 +81,8 @@ module _ {V : Type 0} (outside : MediaOutside V) (at : Served) (e : Edition) (mo
       (subst (λ (z : ButlerState V). IsFlushed (tape_of (start_of at) z.ends.takes.items) z.drain.files (outside.files f.media)) (sym sends.same)
       (flushed.given outside at e most b c d f accepts enters (Ok n) flushes told was))
 
-  no_more_flushed : b.write_failed ≡ true → (g.ends.takes ≡ b.ends.takes) × (g.drain ≡ b.drain)
-  no_more_flushed was = let none = flushed.no_more outside at e most b c d f accepts enters (Ok n) flushes was in (takes_as ∙ none.0, drain_as ∙ none.1)
+  noted : NotesFault false b.drain.files g.drain.files
+  noted = subst (λ (x : DrainState). NotesFault false b.drain.files x.files) (sym drain_as) (flushed.noted outside at e most b c d f accepts enters (Ok n) flushes)
 
   no_more_sent : b.read_failed ≡ true → g.ends.sends ≡ b.ends.sends
   no_more_sent was = ap (λ z. z.ends.sends) (sends.quiet (before ∙ was)).0 ∙ flushed.sends_after outside at e most b c d f accepts enters (Ok n) flushes
@@ -148,9 +144,8 @@ module _ {V : Type 0} (outside : MediaOutside V) (at : Served) (e : Edition) (mo
     reads = sends.read.cause.kept ∙ flushed.read_faults outside at e most b c d f accepts enters (Ok n) flushes;
     writes = writes_stand outside at e most n limit b c d f g accepts enters flushes (Ok m) sends;
     no_more_sent = no_more_sent outside at e most n limit b c d f g accepts enters flushes (Ok m) sends;
-    no_more_flushed = no_more_flushed outside at e most n limit b c d f g accepts enters flushes (Ok m) sends;
+    noted = noted outside at e most n limit b c d f g accepts enters flushes (Ok m) sends;
     read_once = λ was. let once = read_once outside at e most n limit b c d f g accepts enters flushes (Ok m) sends was in (refl, once.0, once.1);
-    write_once = λ was. refl;
   }
 
 -- ---- a read failed
@@ -164,8 +159,7 @@ module _ {V : Type 0} (outside : MediaOutside V) (at : Served) (e : Edition) (mo
     reads = subst (λ (k : ℕ). HasRisen k (outside.read_faults g.media)) (flushed.read_faults outside at e most b c d f accepts enters (Ok n) flushes) (record { later = cause.later; rose = cause.rose });
     writes = writes_stand outside at e most n limit b c d f g accepts enters flushes (Err fault) sends;
     no_more_sent = no_more_sent outside at e most n limit b c d f g accepts enters flushes (Err fault) sends;
-    no_more_flushed = no_more_flushed outside at e most n limit b c d f g accepts enters flushes (Err fault) sends;
+    noted = noted outside at e most n limit b c d f g accepts enters flushes (Err fault) sends;
     read_once = λ was. let quiet = sends.quiet (before outside at e most n limit b c d f g accepts enters flushes (Err fault) sends ∙ was) in
         err_is_ok _ (Err fault) 0 refl quiet.1;
-    write_once = λ was. refl;
   }

@@ -72,6 +72,7 @@ module _ (s z : Session) (same : fixed_of z ≡ fixed_of s) where
     bits = (same i).bits;
     block = (same i).block;
     tracks = ap₂ (λ (f : ℕ → TrackTakes) (n : ℕ). map f (range_with_len 0 n)) (fun_ext at_first_stays) (many_tracks s z same) i;
+    failed = [];
   }
 
   pub taking_stays : (f : Taking) → IsValid s → IsTakingOf z f → IsTakingOf s f

@@ -1,6 +1,6 @@
 -- What flushing comes to in a turn, and what the steps of a turn leave as it was.
-use Rattle.std.proofs.Common.{◌≡◌, ℕ, ◌+◌, ◌<◌, ◌≤◌, List, refl, sym, ap, ◌∙◌, subst, arith, true, false, true≢false, inl, inr}
-use Rattle.std.specs.Prelude.{Bool, Result, Ok, Err, is_err, IfErr}
+use Rattle.std.proofs.Common.{◌≡◌, ℕ, ◌+◌, ◌<◌, ◌≤◌, List, sym, ap, ◌∙◌, subst, true, true≢false}
+use Rattle.std.specs.Prelude.{Result, Ok, is_err, IfErr}
 use Rattle.ses_io.specs.Outside.{MediaOutside}
 use Rattle.edition_log.specs.EditionState.{EditionState as Edition}
 use Rattle.capture_flush.specs.declared.fault.WriteFault.{WriteFault as WriteFailed}
@@ -10,14 +10,10 @@ use Rattle.disk_ring.specs.Receiver.{Receiver}
 use Rattle.piece_item.specs.declared.ack.Ack.{Ack}
 use Rattle.piece_item.specs.declared.take_block.TakeBlock.{TakeBlock}
 use Rattle.capture_drain.specs.Drains.{HaveStopped, IsDrained, AllDrain, AreDrained, total_received}
-use Rattle.capture_drain.specs.Files.{tape_of, AreGiven, OtherFilesStand}
+use Rattle.capture_drain.specs.Files.{tape_of, NotesFault, OtherFilesStand}
 use Rattle.butler.specs.ButlerState.{ButlerState, Served, start_of}
 use Rattle.butler.specs.Turns.{Receives, HasFlushed}
 use Rattle.butler.specs.Steps.{Accepts, EntersIn, Flushes}
-
-abbrev many : {E : Type 0} → Result ℕ E → ℕ
-many (Ok n) = n
-many (Err e) = 0
 
 pub err_is_ok : {T E : Type 0} (P : Type 0) (r : Result T E) (x : T) → is_err r ≡ true → r ≡ Ok x → P
 err_is_ok P r x failed same = absurd (true≢false (sym failed ∙ ap is_err same))
@@ -65,7 +61,7 @@ module _ {V : Type 0} (outside : MediaOutside V) (at : Served) (e : Edition) (mo
   }
 
   pub given : outside.tells → IsFlushed (tape_of (start_of at) b.ends.takes.items) b.drain.files (outside.files b.media) →
-      AreGiven (start_of at) f.ends.takes.items f.drain.files (outside.files f.media) failed
+      IsFlushed (tape_of (start_of at) f.ends.takes.items) f.drain.files (outside.files f.media)
   given told was = flushes.given told (subst (λ (m : V). IsFlushed (tape_of (start_of at) d.ends.takes.items) d.drain.files (outside.files m)) (sym media_before)
       (subst (λ (x : Taking). IsFlushed (tape_of (start_of at) d.ends.takes.items) x (outside.files b.media)) (sym (ap (λ z. z.files) drain_before))
       (subst (λ (rs : List (Receiver TakeBlock)). IsFlushed (tape_of (start_of at) rs) b.drain.files (outside.files b.media)) (sym (ap (λ z. z.items) takes_before)) was)))
@@ -84,9 +80,9 @@ module _ {V : Type 0} (outside : MediaOutside V) (at : Served) (e : Edition) (mo
   pub broken : IfErr failed (λ fault. HaveStopped most b.ends.takes.items f.ends.takes.items)
   broken = subst (λ (rs : List (Receiver TakeBlock)). IfErr failed (λ fault. HaveStopped most rs f.ends.takes.items)) (ap (λ z. z.items) takes_before) flushes.cut
 
-  -- once a write has failed nothing is flushed
-  pub no_more : b.write_failed ≡ true → (f.ends.takes ≡ b.ends.takes) × (f.drain ≡ b.drain)
-  no_more was = let quiet = flushes.quiet (writes_before ∙ was) in (ap (λ z. z.ends.takes) quiet.0 ∙ takes_before, ap (λ z. z.drain) quiet.0 ∙ drain_before)
+  -- which takes have failed
+  pub noted : NotesFault (is_err failed) b.drain.files f.drain.files
+  noted = subst (λ (x : Taking). NotesFault (is_err failed) x f.drain.files) (ap (λ z. z.files) drain_before) flushes.noted
 
 -- ---- so many blocks were flushed
 
@@ -102,18 +98,9 @@ module _ {V : Type 0} (outside : MediaOutside V) (at : Served) (e : Edition) (mo
   total_as = ap (λ z. total_received z.items) takes_as
 
   -- so many were received, no more than asked
-  counted_by : (failed : Bool) → b.write_failed ≡ failed → (total_received f.ends.takes.items ≡ total_received b.ends.takes.items + n) × (n ≤ most) × (f.write_failed ≡ b.write_failed)
-  counted_by true was = let quiet = flushes.quiet (writes_as ∙ was) in let none : n ≡ 0 = ap many quiet.1 in
-      (ap (λ z. total_received z.ends.takes.items) quiet.0 ∙ total_as ∙ omega (arith, none), omega (arith, none), ap (λ z. z.write_failed) quiet.0 ∙ writes_as)
-  counted_by false was = let busy = flushes.busy (writes_as ∙ was) in (busy.1.counted ∙ ap (λ m. m + n) total_as, busy.1.few, busy.0 ∙ sym was)
-
   pub counted : (total_received f.ends.takes.items ≡ total_received b.ends.takes.items + n) × (n ≤ most) × (f.write_failed ≡ b.write_failed)
-  counted = counted_by b.write_failed refl
-
-  over_by : (failed : Bool) → b.write_failed ≡ failed → n < most → HasFlushed b f
-  over_by true was fewer = inl was
-  over_by false was fewer = inr (subst (λ (rs : List (Receiver TakeBlock)). AreDrained rs f.ends.takes.items) (ap (λ z. z.items) takes_as) ((flushes.busy (writes_as ∙ was)).1.done fewer))
+  counted = (flushes.some.counted ∙ ap (λ m. m + n) total_as, flushes.some.few, flushes.flag ∙ writes_as)
 
   -- fewer only where flushing is over
   pub over : n < most → HasFlushed b f
-  over fewer = over_by b.write_failed refl fewer
+  over fewer = subst (λ (rs : List (Receiver TakeBlock)). AreDrained rs f.ends.takes.items) (ap (λ z. z.items) takes_as) (flushes.some.done fewer)

@@ -16,7 +16,6 @@ pub mod FlushedLemmas
 pub mod FaultLemmas
 pub mod AnswerLemmas
 pub mod MeetingLemmas
-pub mod TellingLemmas
 pub mod SourceLemmas
 pub mod GrowLemmas
 pub mod FindLemmas

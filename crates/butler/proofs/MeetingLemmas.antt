@@ -14,6 +14,7 @@ use Rattle.piece_item.specs.declared.ack.Ack.{Ack}
 use Rattle.piece_item.specs.declared.butler_ends.ButlerEnds.{ButlerEnds}
 use Rattle.piece_item.specs.declared.take_block.TakeBlock.{TakeBlock}
 use Rattle.piece_item.specs.Views.{item_of}
+use Rattle.ring_meeting.specs.Told.{AreTold}
 use Rattle.capture_flush.specs.Blocks.{Block, block_of}
 use Rattle.capture_flush.specs.Flushed.{IsFlushed, IsFlushedInPart}
 use Rattle.read_ahead.specs.declared.supply.TrackSupply.{TrackSupply}
@@ -23,7 +24,7 @@ use Rattle.capture_drain.specs.Files.{blocks_at}
 use Rattle.butler.specs.Sends.{acks_of}
 use Rattle.butler.specs.Table.{IsTable}
 use Rattle.butler.specs.Serving.{AreStocked, IsTended}
-use Rattle.butler.specs.Laws.{AreTold, MeetingKeeps}
+use Rattle.butler.specs.Laws.{MeetingKeeps}
 
 -- a box that fits a ring fits one of the same room
 pub fits_as : (p : TrackSupply) (d f : Sender Item) → f.room ≡ d.room → HasSpare p d → HasSpare p f
@@ -42,6 +43,10 @@ blocks_same olds news many same = fun_ext (λ t. at t) where
         ap F found.2 ∙ ap (map block_of) (same t c found.0 hc found.2) ∙ sym (ap F hc))
     | inr past ↦ (let far = past.0 in let gone : slice_get olds t ≡ None = slice_get_past olds t (omega arith) in ap F past.1 ∙ sym (ap F gone))
   ]
+
+-- whether the acknowledgements have ended stays
+pub ended_told : (old new : ButlerEnds) → AreTold old new → old.acks.ended ≡ new.acks.ended
+ended_told old new told = sym (ap (λ (a : Receiver Ack). a.ended) told.acks)
 
 -- the boxes fit the rings still
 pub stocked_told : (supplies : List TrackSupply) (drain : DrainState) (old new : ButlerEnds) → AreTold old new → AreStocked supplies drain old → AreStocked supplies drain new

@@ -64,12 +64,10 @@ module _ {V : Type 0} (s : Session) (e : Edition) (old new : ButlerState V) (rec
   -- ---- what can't be done
 
   no_flush_at : (t : ℕ) → ((c b : Receiver TakeBlock) → slice_get C t ≡ Some c → slice_get B t ≡ Some b → IsPrefix c.heard b.received × (taken b ≡ taken c)) → can (Flush t) ≡ false
-  no_flush_at t over = and_right (not old.write_failed) (option_map_or waits (slice_get C t) false) (none_at waits (slice_get C t) (λ c hc.
-      let b = get_new B C t c (sym alone.many) hc in let all = over c b.0 hc b.1 in no_wait c b.0 all.0 all.1))
+  no_flush_at t over = none_at waits (slice_get C t) (λ c hc. let b = get_new B C t c (sym alone.many) hc in let all = over c b.0 hc b.1 in no_wait c b.0 all.0 all.1)
 
   no_flush : HasFlushed old new → Stand taken C B → (t : ℕ) → can (Flush t) ≡ false
-  no_flush (inl failed) stand t = and_left (not old.write_failed) (option_map_or waits (slice_get C t) false) (ap not failed)
-  no_flush (inr drained) stand t = no_flush_at t (λ c b hc hb. ((drained t c b hc hb).told, stand t c b hc hb))
+  no_flush drained stand t = no_flush_at t (λ c b hc hb. ((drained t c b hc hb).told, stand t c b hc hb))
 
   -- a track that has all a turn can give it
   cannot_send : (t : ℕ) (d f : Sender Item) → slice_get D t ≡ Some d → slice_get F t ≡ Some f → put f ≡ put d → IsDone s e.edits old.cycles t (acks_of new.ends.acks.received) d f →
@@ -112,7 +110,7 @@ module _ {V : Type 0} (s : Session) (e : Edition) (old new : ButlerState V) (rec
 
   module _ (leaves : Leaves s e (acks_of new.ends.acks.received) 1 1 old new) where
     -- a block was flushed
-    module _ (writes : old.write_failed ≡ false) (stand : Stand put D F) (one : OneGrew taken C B) where
+    module _ (stand : Stand put D F) (one : OneGrew taken C B) where
       none_before : (u : ℕ) → u < one.place → can (Flush u) ≡ false
       none_before u below = no_flush_at u (λ a d ha hd. let same = one.others u a d (λ eq. omega (arith, below, eq)) ha hd in
           elim (receives.takes.in_order u one.place a d one.was one.now below ha hd one.was_there one.now_there) [
@@ -121,8 +119,7 @@ module _ {V : Type 0} (s : Session) (e : Edition) (old new : ButlerState V) (rec
           ])
 
       waits_here : can (Flush one.place) ≡ true
-      waits_here = and_from (not old.write_failed) (option_map_or waits (slice_get C one.place) false) (ap not writes)
-          (ap (λ o. option_map_or waits o false) one.was_there ∙ one_waits one.was one.now (alone.takes one.place one.was one.now one.was_there one.now_there).1 one.grew)
+      waits_here = ap (λ o. option_map_or waits o false) one.was_there ∙ one_waits one.was one.now (alone.takes one.place one.was one.now one.was_there one.now_there).1 one.grew
 
       found : first_move s e old new ≡ Some (Flush one.place)
       found = found_front can Flush Send (length C) (length D) one.place (slice_get_within C one.place one.was one.was_there) waits_here none_before
@@ -193,18 +190,17 @@ module _ {V : Type 0} (s : Session) (e : Edition) (old new : ButlerState V) (rec
         answer = refl;
       }
 
-    pub moved : (old.write_failed ≡ true → new.ends.takes ≡ old.ends.takes) → (old.read_failed ≡ true → new.ends.sends ≡ old.ends.sends) → MakesMove s e old (Moved 1) new (first_move s e old new)
-    moved quiet quiet_sends = dite (ℕ_discrete (total_received B) (total_received C))
+    pub moved : (old.read_failed ≡ true → new.ends.sends ≡ old.ends.sends) → MakesMove s e old (Moved 1) new (first_move s e old new)
+    moved quiet_sends = dite (ℕ_discrete (total_received B) (total_received C))
         (λ (none : total_received B ≡ total_received C). let more : total_sent F ≡ total_sent D + 1 = omega (arith, leaves.moved, none) in
         sends_one (false_from_ne_true old.read_failed (λ failed. omega (arith, more, ap (λ z. total_sent z.items) (quiet_sends failed))))
         (none_grew taken C B alone.many takes_rise none) (leaves.flushed_first (omega (arith, more))) (one_grew put D F alone.many_sends sends_rise more))
         (λ (some : total_received B ≢ total_received C). let fewer = never_less taken C B alone.many takes_rise in let fewer_sent = never_less put D F alone.many_sends sends_rise in
         let more : total_received B ≡ total_received C + 1 = omega (arith, leaves.moved, fewer, fewer_sent, some) in
-        flushes_one (false_from_ne_true old.write_failed (λ failed. some (ap (λ z. total_received z.items) (quiet failed))))
-        (none_grew put D F alone.many_sends sends_rise (omega (arith, leaves.moved, more))) (one_grew taken C B alone.many takes_rise more))
+        flushes_one (none_grew put D F alone.many_sends sends_rise (omega (arith, leaves.moved, more))) (one_grew taken C B alone.many takes_rise more))
 
 pub a_turn_of_one_is_one_move : {V : Type 0} → ATurnOfOneIsOneMove V
-a_turn_of_one_is_one_move s e old Idle new receives sends leaves quiet quiet_sends alone = idle s e old new receives sends alone leaves
-a_turn_of_one_is_one_move s e old (Moved n) new receives sends (some, leaves) quiet quiet_sends alone = let one : 1 ≡ n = omega (arith, some, leaves.most) in
+a_turn_of_one_is_one_move s e old Idle new receives sends leaves quiet_sends alone = idle s e old new receives sends alone leaves
+a_turn_of_one_is_one_move s e old (Moved n) new receives sends (some, leaves) quiet_sends alone = let one : 1 ≡ n = omega (arith, some, leaves.most) in
     subst (λ (k : ℕ). MakesMove s e old (Moved k) new (first_move s e old new)) one (moved s e old new receives sends alone
-    (subst (λ (k : ℕ). Leaves s e (acks_of new.ends.acks.received) 1 k old new) (sym one) leaves) quiet quiet_sends)
+    (subst (λ (k : ℕ). Leaves s e (acks_of new.ends.acks.received) 1 k old new) (sym one) leaves) quiet_sends)

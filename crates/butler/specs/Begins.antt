@@ -48,3 +48,4 @@ pub record IsGiven {V : Type 0} (media : V) (sources : List OpenedSource) (cycle
   pub ends_is : b.ends ≡ ends
   pub no_read_failed : b.read_failed ≡ false
   pub no_write_failed : b.write_failed ≡ false
+  pub no_take_failed : b.drain.files.failed ≡ []

@@ -6,7 +6,7 @@ use Rattle.session_model.specs.declared.session.Session.{Session}
 use Rattle.edition_log.specs.EditionState.{EditionState as Edition}
 use Rattle.read_ahead.specs.AllServes.{total_sent, AllAtHand}
 use Rattle.capture_drain.specs.Drains.{total_received}
-use Rattle.capture_drain.specs.Files.{OtherFilesStand}
+use Rattle.capture_drain.specs.Files.{NotesFault, OtherFilesStand}
 use Rattle.butler.specs.declared.turning.Turn.{Turn}
 use Rattle.butler.specs.declared.faults.ButlerFault.{ButlerFault}
 use Rattle.butler.specs.declared.faults.ButlerFault.TheVariants.{ReadFault, WriteFault}
@@ -43,12 +43,11 @@ pub record Fails {V : Type 0} (outside : MediaOutside V) (old : ButlerState V) (
   pub writes : Counts (is_write_fault answer) (outside.write_faults old.media) (outside.write_faults new.media)
   -- once a read has failed nothing is sent
   pub no_more_sent : old.read_failed ≡ true → new.ends.sends ≡ old.ends.sends
-  -- and once a write has failed nothing is flushed
-  pub no_more_flushed : old.write_failed ≡ true → (new.ends.takes ≡ old.ends.takes) × (new.drain ≡ old.drain)
-  -- each fault is answered once; after a read fault nothing is read either
+  -- a write fault is noted by its take, of which nothing more is written; all others go on
+  pub noted : NotesFault (is_write_fault answer) old.drain.files new.drain.files
+  -- a read fault is answered once; after it nothing is read either
   pub read_once : old.read_failed ≡ true → (is_read_fault answer ≡ false) × (new.sources ≡ old.sources)
       × (total_received new.ends.takes.items ≡ total_received old.ends.takes.items → new.media ≡ old.media)
-  pub write_once : old.write_failed ≡ true → is_write_fault answer ≡ false
 
 -- What else a turn leaves as it was.
 pub record KeepsRest {V : Type 0} (outside : MediaOutside V) (s : Session) (e : Edition) (old new : ButlerState V) : Type 0 where

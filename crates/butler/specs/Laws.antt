@@ -1,32 +1,17 @@
--- What is said of a butler whose ends met the process's, and of the files of its sources.
-use Rattle.std.specs.Prelude.{◌≡◌, ℕ, List, ◌++◌, length, slice_get, Some, IsSome, codes}
+-- What is said of a butler whose ends met the other ends of their rings, and of the files of its sources.
+use Rattle.std.specs.Prelude.{◌≡◌, ℕ, List, ◌++◌, slice_get, Some, IsSome, codes}
 use Rattle.ses_io.specs.Files.{Files, HasNameUnder}
 use Rattle.session_model.specs.declared.session.Session.{Session}
 use Rattle.session_model.specs.declared.edit.Edit.{Edit}
 use Rattle.audio_source.specs.Opened.{OpenedSource}
-use Rattle.disk_ring.specs.Sender.{Sender}
-use Rattle.disk_ring.specs.Receiver.{Receiver}
-use Rattle.piece_item.specs.declared.item.Item.{Item}
-use Rattle.piece_item.specs.declared.take_block.TakeBlock.{TakeBlock}
 use Rattle.piece_item.specs.declared.butler_ends.ButlerEnds.{ButlerEnds}
+use Rattle.ring_meeting.specs.Told.{AreTold}
 use Rattle.capture_flush.specs.Flushed.{IsFlushed, IsFlushedInPart}
 use Rattle.capture_drain.specs.Files.{RunStart, tape_of, OtherFilesStand}
 use Rattle.butler.specs.ButlerState.{Rested, resumed}
 use Rattle.butler.specs.Serving.{IsServing, AreStocked, IsTrueTo, SourcesStand}
 
--- the ends changed only in what they were told
-pub record AreTold (old new : ButlerEnds) : Type 0 where
-  pub many : length new.sends.items ≡ length old.sends.items
-  -- of each track the number received of what was sent
-  pub sends : (t : ℕ) (d f : Sender Item) → slice_get old.sends.items t ≡ Some d → slice_get new.sends.items t ≡ Some f → f ≡ record d { got = f.got }
-  pub captures : length new.takes.items ≡ length old.takes.items
-  -- the blocks that were put
-  pub takes : (t : ℕ) (c b : Receiver TakeBlock) → slice_get old.takes.items t ≡ Some c → slice_get new.takes.items t ≡ Some b →
-      b ≡ record c { heard = b.heard; over = b.over }
-  -- and the acknowledgements
-  pub acks : new.acks ≡ record old.acks { heard = new.acks.heard; over = new.acks.over }
-
--- What a butler keeps when its ends meet the process's.
+-- What a butler keeps when its ends meet the other ends of their rings.
 pub record IsKeptBy {V : Type 0} (s : Session) (edits : List Edit) (r : Rested V) (old new : ButlerEnds) : Type 0 where
   pub serving : IsServing s edits (resumed r old) → IsServing s edits (resumed r new)
   pub stocked : AreStocked r.supplies r.drain old → AreStocked r.supplies r.drain new

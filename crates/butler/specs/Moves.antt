@@ -37,7 +37,7 @@ module _ {V : Type 0} (s : Session) (e : Edition) (old new : ButlerState V) wher
   can_send t d = not old.read_failed && (has_room d && is_some (due_of t d))
 
   abbrev pub can_move : Event → Bool
-  can_move (Flush t) = not old.write_failed && option_map_or waits (slice_get old.ends.takes.items t) false
+  can_move (Flush t) = option_map_or waits (slice_get old.ends.takes.items t) false
   can_move (Send t) = option_map_or (can_send t) (slice_get old.ends.sends.items t) false
   can_move (Publish edit) = false
   can_move EnterButler = false
@@ -91,5 +91,5 @@ pub record MakesMove {V : Type 0} (s : Session) (e : Edition) (old : ButlerState
 -- A turn of at most one item that nothing fails in is one move, or none, as a function of what the butler knew.
 abbrev pub ATurnOfOneIsOneMove : Type 0 → Type 0
 ATurnOfOneIsOneMove V = (s : Session) (e : Edition) (old : ButlerState V) (turn : Turn) (new : ButlerState V) → Receives old new → AllSend s e old new → Answers s e 1 old (Ok turn) new →
-    (old.write_failed ≡ true → new.ends.takes ≡ old.ends.takes) → (old.read_failed ≡ true → new.ends.sends ≡ old.ends.sends) → IsAlone old new →
+    (old.read_failed ≡ true → new.ends.sends ≡ old.ends.sends) → IsAlone old new →
     MakesMove s e old turn new (first_move s e old new)

@@ -1,6 +1,6 @@
 -- What the steps of a turn do, one after the other: acknowledgements are taken, the edition is entered, blocks are flushed, and what is
 -- due is sent.
-use Rattle.std.specs.Prelude.{◌≡◌, ℕ, ◌<◌, true, false, length, is_err, Result, Ok, IfOk, IfErr}
+use Rattle.std.specs.Prelude.{◌≡◌, ◌||◌, ℕ, ◌<◌, true, false, length, is_err, Result, Ok, IfOk, IfErr}
 use Rattle.ses_io.specs.Outside.{MediaOutside}
 use Rattle.sound_model.specs.Regions.{Sounds}
 use Rattle.edition_log.specs.EditionState.{EditionState as Edition}
@@ -13,7 +13,7 @@ use Rattle.capture_flush.specs.Taking.{IsTakingOf}
 use Rattle.read_ahead.specs.Reader.{ReaderState, IsTold}
 use Rattle.read_ahead.specs.AllServes.{AreEntered, Goes, AllAtHand, total_sent}
 use Rattle.capture_drain.specs.Drains.{IsDrained, AllDrain, HaveDrained, HaveStopped}
-use Rattle.capture_drain.specs.Files.{RunStart, tape_of, AreGiven, WritesTakes}
+use Rattle.capture_drain.specs.Files.{RunStart, NotesFault, tape_of, WritesTakes}
 use Rattle.butler.specs.Sends.{acks_of}
 use Rattle.butler.specs.Table.{IsTable}
 use Rattle.butler.specs.ButlerState.{ButlerState}
@@ -41,14 +41,15 @@ module _ {V : Type 0} where
     pub again : b.entered ≡ length e.edits → c.supplies ≡ b.supplies
     pub anew : ¬ (b.entered ≡ length e.edits) → AreEntered e b.supplies c.supplies
 
-  -- blocks were flushed, unless a write failed before
+  -- blocks were flushed
   pub record Flushes (outside : MediaOutside V) (run : RunStart) (most : ℕ) (b : ButlerState V) (result : Result ℕ WriteFault) (c : ButlerState V) : Type 0 where
     pub same : c ≡ record b { media = c.media; drain = c.drain; ends = record b.ends { takes = c.ends.takes }; write_failed = c.write_failed }
-    pub quiet : b.write_failed ≡ true → (c ≡ b) × (result ≡ Ok 0)
-    pub busy : b.write_failed ≡ false → (c.write_failed ≡ is_err result) × IfOk result (HaveDrained most b.ends.takes.items c.ends.takes.items)
+    pub flag : c.write_failed ≡ (is_err result || b.write_failed)
+    pub some : IfOk result (HaveDrained most b.ends.takes.items c.ends.takes.items)
     pub rings : AllDrain b.ends.takes.items c.ends.takes.items
     pub given : outside.tells → IsFlushed (tape_of run b.ends.takes.items) b.drain.files (outside.files b.media) →
-        AreGiven run c.ends.takes.items c.drain.files (outside.files c.media) result
+        IsFlushed (tape_of run c.ends.takes.items) c.drain.files (outside.files c.media)
+    pub noted : NotesFault (is_err result) b.drain.files c.drain.files
     pub cut : IfErr result (λ fault. HaveStopped most b.ends.takes.items c.ends.takes.items)
     pub of : IsTakingOf run.session c.drain.files
     pub media : WritesTakes outside run.session b.ends.takes.items c.ends.takes.items b.media c.media result

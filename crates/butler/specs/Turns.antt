@@ -1,5 +1,5 @@
 -- What a turn does.
-use Rattle.std.specs.Prelude.{◌≡◌, ◌⊎◌, ℕ, ◌+◌, ◌<◌, ◌≤◌, true, false, List, length, slice_get, slice_index_or, Some, Result, Ok, Err}
+use Rattle.std.specs.Prelude.{◌≡◌, ℕ, ◌+◌, ◌<◌, ◌≤◌, true, false, List, length, slice_get, slice_index_or, Some, Result, Ok, Err}
 use mathlib.Core.List.{IsPrefix}
 use Rattle.ses_io.specs.Files.{Files}
 use Rattle.ses_io.specs.Outside.{MediaOutside}
@@ -12,7 +12,7 @@ use Rattle.capture_flush.specs.Flushed.{IsFlushed}
 use Rattle.read_ahead.specs.Pass.{PassState}
 use Rattle.read_ahead.specs.AllServes.{total_sent, AllAtHand}
 use Rattle.capture_drain.specs.Drains.{IsDrained, AllDrain, AreDrained, total_received}
-use Rattle.capture_drain.specs.Files.{tape_of, IsCutAt}
+use Rattle.capture_drain.specs.Files.{tape_of}
 use Rattle.butler.specs.declared.turning.Turn.{Turn}
 use Rattle.butler.specs.declared.turning.Turn.TheVariants.{Moved, Idle}
 use Rattle.butler.specs.declared.faults.ButlerFault.{ButlerFault}
@@ -38,18 +38,14 @@ pub record Receives {V : Type 0} (old new : ButlerState V) : Type 0 where
   -- and blocks of the capture rings
   pub takes : AllDrain old.ends.takes.items new.ends.takes.items
 
--- flushing is over: a write failed before, or each capture ring was taken to its end
+-- flushing is over: each capture ring was taken to its end
 abbrev pub HasFlushed : {V : Type 0} → ButlerState V → ButlerState V → Type 0
-HasFlushed old new = (old.write_failed ≡ true) ⊎ AreDrained old.ends.takes.items new.ends.takes.items
+HasFlushed old new = AreDrained old.ends.takes.items new.ends.takes.items
 
--- Where the files held exactly the blocks that had been received, so they do now; after a fault those before the last, and of it a front.
-abbrev pub TakesAreKept : Served → Files → Files → {V : Type 0} → ButlerState V → Result Turn ButlerFault → ButlerState V → Type 0
-TakesAreKept at before after old (Ok turn) new = IsFlushed (tape_of (start_of at) old.ends.takes.items) old.drain.files before →
+-- Where the files held the blocks that had been received, and of each take that had failed a front, so they do now.
+abbrev pub TakesAreKept : Served → Files → Files → {V : Type 0} → ButlerState V → ButlerState V → Type 0
+TakesAreKept at before after old new = IsFlushed (tape_of (start_of at) old.ends.takes.items) old.drain.files before →
     IsFlushed (tape_of (start_of at) new.ends.takes.items) new.drain.files after
-TakesAreKept at before after old (Err ReadFault) new = IsFlushed (tape_of (start_of at) old.ends.takes.items) old.drain.files before →
-    IsFlushed (tape_of (start_of at) new.ends.takes.items) new.drain.files after
-TakesAreKept at before after old (Err WriteFault) new = IsFlushed (tape_of (start_of at) old.ends.takes.items) old.drain.files before →
-    IsCutAt (start_of at) new.ends.takes.items new.drain.files after
 
 -- ---- what is sent
 

@@ -166,7 +166,8 @@ impl<M: Media> Butler<M> {
     /// Takes acknowledgements until there is none, enters the edition, flushes blocks of the
     /// capture rings into the files of takes, and sends what is due of each track in order, in all
     /// at most so many. It takes no memory. After a ReadFault all playback rings are closed, and
-    /// further turns send nothing; after a WriteFault they flush nothing.
+    /// further turns send nothing; after a WriteFault the take at which it came is left as it is, and
+    /// those of all others are flushed further.
     pub fn turn(&mut self, e: &Edition, most: u32) -> Result<Turn, ButlerFault>
         ghost at: { Served }
         requires enters { Enters at self.old e.now }
@@ -174,7 +175,7 @@ impl<M: Media> Butler<M> {
         ensures serving { IsServing at.session e.now.edits self.new }
         ensures receives { Receives self.old self.new }
         ensures takes { M.outside.tells → TakesAreKept at (M.outside.files self.old.media)
-            (M.outside.files self.new.media) self.old result self.new }
+            (M.outside.files self.new.media) self.old self.new }
         ensures sends { AllSend at.session e.now self.old self.new }
         ensures stays_true { M.outside.tells → StaysTrue M.outside at e.now self.old self.new }
         ensures answer { Answers at.session e.now most self.old result self.new }

@@ -8,8 +8,8 @@ pub enum ButlerFault {
     /// closed.
     #[error("a read failed")]
     ReadFault,
-    /// A write of the media failed, and its count of failed writes rose. No further block is
-    /// flushed.
+    /// A write of the media failed, and its count of failed writes rose. The take has failed: no
+    /// further block of it is written.
     #[error("a write failed")]
     WriteFault,
 }

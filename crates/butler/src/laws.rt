@@ -3,8 +3,8 @@ ghost use Rattle.butler.specs.Laws.{MeetingKeeps, SourcesAreNoTakes};
 ghost use Rattle.butler.specs.Moves.{ATurnOfOneIsOneMove};
 ghost use Rattle.butler.specs.CoreMoves.{TheMoveIsTheCoreMachines};
 
-/// A meeting of a butler's ends with the process's leaves it serving its session, its boxes
-/// fitting, and what is true of files true.
+/// A meeting of a butler's ends with the other ends of their rings leaves it serving its session,
+/// its boxes fitting, and what is true of files true.
 #[tactic(auto, using(crate::proofs::MeetingLemmas::meeting_keeps))]
 pub fn meeting_keeps<V>()
     ensures { MeetingKeeps V }

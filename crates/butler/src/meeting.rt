@@ -1,34 +1,30 @@
-//! A butler's ends meet those of the process.
+//! A butler's ends meet the other ends of their rings.
 ghost use Rattle.std.specs.Prelude.{◌≡◌};
-ghost use Rattle.process_cycle.specs.Ends.{MayMeet, MayMeetPlays};
-ghost use Rattle.process_cycle.specs.Meetings.{MeetsOthers};
-ghost use Rattle.process_cycle.specs.ProcessState.{Playing};
+ghost use Rattle.ring_meeting.specs.Told.{AreTold};
 
 use crate::butler::Butler;
-use process_cycle::Process;
-use ses_io::{Media, Sink, Source};
+use ring_meeting::OtherEnds;
+use ses_io::Media;
 
 impl<M: Media> Butler<M> {
-    /// Each of its ends and the process's end of the same ring tell each other what they know, but
+    /// Each of its ends and the other end of the same ring tell each other what they know, but
     /// where nothing moved since they met. Nothing else changes, and nothing is moved.
-    pub fn meet<I: Source, W: Sink>(&mut self, process: &mut Process<I, W>)
-        ghost at: { Playing }
-        requires { MayMeet process.old.ends self.old.ends }
+    pub fn meet<T: OtherEnds>(&mut self, other: &mut T)
+        requires { T.meeting.may other.old self.old.ends }
         ensures same { self.new ≡ record self.old { ends = self.new.ends } }
-        ensures process { MeetsOthers I.outside W.outside at process.old self.old.ends
-            process.new self.new.ends }
+        ensures told { AreTold self.old.ends self.new.ends }
+        ensures meets { T.meeting.meets other.old self.old.ends other.new self.new.ends }
     {
-        process.meet(&mut self.ends);
+        other.meet(&mut self.ends);
     }
 
     /// The same where only the ends of playback rings have something to tell: no other is asked.
-    pub fn meet_plays<I: Source, W: Sink>(&mut self, process: &mut Process<I, W>)
-        ghost at: { Playing }
-        requires { MayMeetPlays process.old.ends self.old.ends }
+    pub fn meet_plays<T: OtherEnds>(&mut self, other: &mut T)
+        requires { T.meeting.may_plays other.old self.old.ends }
         ensures same { self.new ≡ record self.old { ends = self.new.ends } }
-        ensures process { MeetsOthers I.outside W.outside at process.old self.old.ends
-            process.new self.new.ends }
+        ensures told { AreTold self.old.ends self.new.ends }
+        ensures meets { T.meeting.meets other.old self.old.ends other.new self.new.ends }
     {
-        process.meet_plays(&mut self.ends);
+        other.meet_plays(&mut self.ends);
     }
 }

@@ -46,7 +46,7 @@ impl<M: Media> Butler<M> {
         }
     }
 
-    /// Flushes at most so many blocks, unless a write failed before.
+    /// Flushes at most so many blocks.
     pub(crate) fn flush(&mut self, most: u32) -> Result<u32, WriteFault>
         ghost run: { RunStart }
         requires of { IsTakingOf run.session self.old.drain.files }
@@ -55,12 +55,11 @@ impl<M: Media> Butler<M> {
         ensures stocked { AreStocked self.new.supplies self.new.drain self.new.ends }
     {
         let holds = &mut self.holds;
-        if holds.write_failed {
-            return Ok(0);
-        }
         let rings = self.ends.takes.as_mut_slice();
         let answer = holds.drain.drain(&mut holds.reader.media, rings, most);
-        holds.write_failed = answer.is_err();
+        if answer.is_err() {
+            holds.write_failed = true;
+        }
         answer
     }
 

@@ -1,6 +1,6 @@
 -- The media under one call after the other.
 use Rattle.std.proofs.Common.{◌≡◌, ℕ, ◌<◌, ◌≤◌, List, [], ◌∷◌, ◌++◌, length, set, refl, sym, ap, subst, ◌∙◌, arith, Result, Ok, Err, IsErr, true≢false, le_trans}
-use Rattle.std.specs.Prelude.{Option, Some, slice_get}
+use Rattle.std.specs.Prelude.{true, Some, is_err, slice_get}
 use Rattle.std.proofs.lemmas.List.{length-append}
 use Rattle.ses_io.specs.Files.{Files}
 use Rattle.ses_io.specs.Faults.{risen}
@@ -11,13 +11,12 @@ use Rattle.disk_ring.specs.Receiver.{Receiver, GoesOnOut}
 use Rattle.piece_item.specs.declared.take_block.TakeBlock.{TakeBlock}
 use Rattle.capture_flush.specs.declared.fault.WriteFault.{WriteFault}
 use Rattle.capture_flush.specs.Taking.{Taking}
-use Rattle.capture_flush.specs.declared.track.Place.{Place}
 use Rattle.capture_flush.specs.Blocks.{block_of}
 use Rattle.capture_flush.specs.Flushed.{Gives}
 use Rattle.capture_flush.proofs.AddedLemmas.{OnlyAt}
 use Rattle.capture_flush.proofs.GiveLemmas.{gives-only}
 use Rattle.capture_drain.specs.Drains.{total_received}
-use Rattle.capture_drain.specs.Files.{IsCutAt, RunStart, AreGiven, OtherFilesStand, WritesTakes}
+use Rattle.capture_drain.specs.Files.{NotesFault, OtherFilesStand, WritesTakes}
 use Rattle.capture_drain.proofs.TapeLemmas.{total_set, set_same, set_twice}
 use Rattle.capture_drain.proofs.RingLemmas.{no_less}
 
@@ -32,31 +31,33 @@ others_stand s t n old new lt only q other = only q (λ is. other (t, n, lt, is)
 grown : {P : Type 0} (rings : List Ring) (t : ℕ) (a b : Ring) (x : TakeBlock) → slice_get rings t ≡ Some a → b.received ≡ a.received ++ x ∷ [] → total_received (set rings t b) ≡ total_received rings → P
 grown rings t a b x here more same = absurd (omega (arith, total_set rings t a b here, same, ap length more, length-append a.received (x ∷ [])))
 
-pub writes_block : {V T : Type 0} (outside : MediaOutside V) (s : Session) (rings : List Ring) (t : ℕ) (a b : Ring) (x : TakeBlock) (last : Option Place) (old new : V) (answer : T) →
-    t < length s.tracks.items → slice_get rings t ≡ Some a → b.received ≡ a.received ++ x ∷ [] → Gives {E = WriteFault} outside s t last (block_of x) old new (Ok tt) →
+pub writes_block : {V T : Type 0} (outside : MediaOutside V) (s : Session) (rings : List Ring) (t : ℕ) (a b : Ring) (x : TakeBlock) (f : Taking) (old new : V) (answer : T) →
+    t < length s.tracks.items → slice_get rings t ≡ Some a → b.received ≡ a.received ++ x ∷ [] → Gives {E = WriteFault} outside s f t (block_of x) old new (Ok tt) →
     WritesTakes outside s rings (set rings t b) old new (Ok answer)
-writes_block outside s rings t a b x last old new answer lt here more gives = record {
-  others = λ tells. others_stand s t x.take (outside.files old) (outside.files new) lt (gives-only outside s t last (block_of x) old new (Ok tt) gives tells);
+writes_block outside s rings t a b x f old new answer lt here more gives = record {
+  others = λ tells. others_stand s t x.take (outside.files old) (outside.files new) lt (gives-only outside s f t (block_of x) old new (Ok tt) gives tells);
   same = grown rings t a b x here more;
   cause = record { later = gives.cause.later; kept = gives.cause.kept; rose = tt };
   reads = gives.reads;
 }
 
-pub writes_part : {V T : Type 0} (outside : MediaOutside V) (s : Session) (rings : List Ring) (t : ℕ) (a b : Ring) (x : TakeBlock) (last : Option Place) (old new : V) (e : WriteFault) (r : Result T WriteFault) → IsErr r →
-    t < length s.tracks.items → slice_get rings t ≡ Some a → b.received ≡ a.received ++ x ∷ [] → Gives outside s t last (block_of x) old new (Err e) →
+pub writes_part : {V T : Type 0} (outside : MediaOutside V) (s : Session) (rings : List Ring) (t : ℕ) (a b : Ring) (x : TakeBlock) (f : Taking) (old new : V) (e : WriteFault) (r : Result T WriteFault) → IsErr r →
+    t < length s.tracks.items → slice_get rings t ≡ Some a → b.received ≡ a.received ++ x ∷ [] → Gives outside s f t (block_of x) old new (Err e) →
     WritesTakes outside s rings (set rings t b) old new r
-writes_part outside s rings t a b x last old new e (Ok y) err lt here more gives = absurd (true≢false (sym err))
-writes_part outside s rings t a b x last old new e (Err f) err lt here more gives = record {
-  others = λ tells. others_stand s t x.take (outside.files old) (outside.files new) lt (gives-only outside s t last (block_of x) old new (Err e) gives tells);
+writes_part outside s rings t a b x f old new e (Ok y) err lt here more gives = absurd (true≢false (sym err))
+writes_part outside s rings t a b x f old new e (Err g) err lt here more gives = record {
+  others = λ tells. others_stand s t x.take (outside.files old) (outside.files new) lt (gives-only outside s f t (block_of x) old new (Err e) gives tells);
   same = grown rings t a b x here more;
   cause = record { later = gives.cause.later; kept = tt; rose = gives.cause.rose };
   reads = gives.reads;
 }
 
--- a part of a block was given
-pub given_in_part : {T : Type 0} (run : RunStart) (rings : List Ring) (taking : Taking) (files : Files) (r : Result T WriteFault) → IsErr r → IsCutAt run rings taking files → AreGiven run rings taking files r
-given_in_part run rings taking files (Ok x) err cut = absurd (true≢false (sym err))
-given_in_part run rings taking files (Err e) err cut = cut
+-- ---- takes that failed
+
+-- one more
+pub noted : {T : Type 0} (r : Result T WriteFault) (old mid new : Taking) → IsErr r → mid.failed ≡ old.failed → NotesFault true mid new → NotesFault (is_err r) old new
+noted (Ok x) old mid new err same one = absurd (true≢false (sym err))
+noted (Err e) old mid new err same one = (one.0, one.1 ∙ ap (λ l. l ++ one.0 ∷ []) same)
 
 -- ---- one call after the other
 

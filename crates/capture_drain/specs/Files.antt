@@ -1,5 +1,5 @@
 -- What draining does to the files of a media.
-use Rattle.std.specs.Prelude.{◌≡◌, ℕ, List, [], map, slice_get, Result, Ok, Err}
+use Rattle.std.specs.Prelude.{◌≡◌, ℕ, Bool, true, false, List, [], ◌∷◌, ◌++◌, map, slice_get, Result}
 use Rattle.std.specs.Option.{option_map_or}
 use Rattle.ses_io.specs.Files.{Files}
 use Rattle.ses_io.specs.Outside.{MediaOutside, WriteCause}
@@ -8,8 +8,9 @@ use Rattle.disk_ring.specs.Receiver.{Receiver}
 use Rattle.piece_item.specs.declared.take_block.TakeBlock.{TakeBlock}
 use Rattle.capture_flush.specs.declared.fault.WriteFault.{WriteFault}
 use Rattle.capture_flush.specs.Blocks.{Block, block_of}
-use Rattle.capture_flush.specs.Taking.{Taking, last_of}
-use Rattle.capture_flush.specs.Flushed.{Tape, GivesInPart, IsTakeName, IsFlushed, IsFlushedInPart, with_block}
+use Rattle.capture_flush.specs.declared.track.FailedTake.{FailedTake}
+use Rattle.capture_flush.specs.Taking.{Taking}
+use Rattle.capture_flush.specs.Flushed.{Tape, IsTakeName}
 use Rattle.capture_drain.specs.Drains.{total_received}
 
 -- what no code holds and clauses speak of: the session, and the files before the first block
@@ -25,22 +26,10 @@ blocks_at rings t = option_map_or (λ r. map block_of r.received) (slice_get rin
 abbrev pub tape_of : RunStart → List (Receiver TakeBlock) → Tape
 tape_of run rings = record { session = run.session; held = run.held; blocks = blocks_at rings }
 
--- A write failed at the last block that was received: those before it were given whole, and of it a part.
-pub record IsCutAt (run : RunStart) (rings : List (Receiver TakeBlock)) (taking : Taking) (files : Files) : Type 0 where
-  -- its track, itself, and what had been given before, with the files as they were then
-  pub track : ℕ
-  pub block : Block
-  pub before : Tape
-  pub middle : Files
-  pub given : IsFlushed before taking middle
-  pub last : tape_of run rings ≡ with_block before track block
-  pub part : GivesInPart run.session track (last_of taking track) block middle files
-  pub in_part : IsFlushedInPart (tape_of run rings) files
-
--- the files hold exactly the blocks that were received, or, after a fault, those before the last and a part of it
-abbrev pub AreGiven : {T : Type 0} → RunStart → List (Receiver TakeBlock) → Taking → Files → Result T WriteFault → Type 0
-AreGiven run rings taking files (Ok x) = IsFlushed (tape_of run rings) taking files
-AreGiven run rings taking files (Err e) = IsCutAt run rings taking files
+-- The takes that have failed: those of before, and one more where a write failed.
+abbrev pub NotesFault : Bool → Taking → Taking → Type 0
+NotesFault true old new = (k : FailedTake) × (new.failed ≡ old.failed ++ k ∷ [])
+NotesFault false old new = new.failed ≡ old.failed
 
 -- no file changed but those of takes
 abbrev pub OtherFilesStand : Session → Files → Files → Type 0

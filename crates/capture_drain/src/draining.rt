@@ -1,10 +1,10 @@
 //! Blocks of capture rings go into the take files, ring by ring.
-ghost use Rattle.std.specs.Prelude.{◌≡◌, ◌<◌, length, IfOk, IfErr};
+ghost use Rattle.std.specs.Prelude.{◌≡◌, ◌<◌, length, is_err, IfOk, IfErr};
 ghost use Rattle.capture_flush.specs.Taking.{IsTakingOf};
 ghost use Rattle.capture_flush.specs.Flushed.{IsFlushed};
 ghost use Rattle.capture_drain.specs.Drains.{AllDrain, HaveDrained, HaveStopped};
 ghost use Rattle.capture_drain.specs.State.{AreFitted};
-ghost use Rattle.capture_drain.specs.Files.{RunStart, tape_of, AreGiven, WritesTakes};
+ghost use Rattle.capture_drain.specs.Files.{RunStart, tape_of, NotesFault, WritesTakes};
 ghost use Rattle.capture_drain.specs.OneRing.{Standing, IsOneDrained, HasOneTaken};
 
 use crate::drain::CaptureDrain;
@@ -35,7 +35,8 @@ fn drain_track<M: Media>(
     ensures cut { IfErr result (λ fault. HaveStopped most rings.old rings.new) }
     ensures given { M.outside.tells
         → IsFlushed (tape_of at.run rings.old) files.old (M.outside.files media.old)
-        → AreGiven at.run rings.new files.new (M.outside.files media.new) result }
+        → IsFlushed (tape_of at.run rings.new) files.new (M.outside.files media.new) }
+    ensures failed { NotesFault (is_err result) files.old files.new }
     ensures of { IsTakingOf at.run.session files.new }
     ensures media { WritesTakes M.outside at.run.session rings.old rings.new
         media.old media.new result }
@@ -67,7 +68,8 @@ fn drain_all<M: Media>(
     ensures cut { IfErr result (λ fault. HaveStopped most rings.old rings.new) }
     ensures given { M.outside.tells
         → IsFlushed (tape_of run rings.old) files.old (M.outside.files media.old)
-        → AreGiven run rings.new files.new (M.outside.files media.new) result }
+        → IsFlushed (tape_of run rings.new) files.new (M.outside.files media.new) }
+    ensures failed { NotesFault (is_err result) files.old files.new }
     ensures fitted { AreFitted (record { files = files.new; tracks = tracks.new }) rings.new }
     ensures of { IsTakingOf run.session files.new }
     ensures media { WritesTakes M.outside run.session rings.old rings.new
@@ -87,7 +89,8 @@ fn drain_all<M: Media>(
 impl CaptureDrain {
     /// Takes blocks out of the rings in their order, each until nothing more is there, and all together at most so many,
     /// and gives each to the file of its take. Answers how many it took. It takes no memory and waits for no other worker; its
-    /// writes may take long. A write fails at the block that was taken last: those before it stand whole, and of it a part may.
+    /// writes may take long. A write fails at the block that was taken last: its take has failed then, of which further blocks
+    /// are taken and left out; those of all other takes are written by further calls.
     pub fn drain<M: Media>(
         &mut self,
         media: &mut M,
@@ -103,7 +106,8 @@ impl CaptureDrain {
         ensures cut { IfErr result (λ fault. HaveStopped most rings.old rings.new) }
         ensures given { M.outside.tells
             → IsFlushed (tape_of run rings.old) self.old.files (M.outside.files media.old)
-            → AreGiven run rings.new self.new.files (M.outside.files media.new) result }
+            → IsFlushed (tape_of run rings.new) self.new.files (M.outside.files media.new) }
+        ensures failed { NotesFault (is_err result) self.old.files self.new.files }
         ensures fitted { AreFitted self.new rings.new }
         ensures of { IsTakingOf run.session self.new.files }
         ensures media { WritesTakes M.outside run.session rings.old rings.new

@@ -1,10 +1,10 @@
 //! Blocks of one capture ring go into the take files: one block, or as many as there are.
-ghost use Rattle.std.specs.Prelude.{◌≡◌, ◌+◌, set, length, IfOk, IfErr};
+ghost use Rattle.std.specs.Prelude.{◌≡◌, ◌+◌, set, length, is_err, IfOk, IfErr};
 ghost use Rattle.capture_flush.specs.Taking.{IsTakingOf};
 ghost use Rattle.capture_flush.specs.Flushed.{IsFlushed};
 ghost use Rattle.capture_drain.specs.Drains.{Drains};
 ghost use Rattle.capture_drain.specs.State.{Fits};
-ghost use Rattle.capture_drain.specs.Files.{tape_of, AreGiven, WritesTakes};
+ghost use Rattle.capture_drain.specs.Files.{tape_of, NotesFault, WritesTakes};
 ghost use Rattle.capture_drain.specs.OneRing.{Standing, IsRingOf, HasTaken, HasDrained, HasStopped};
 
 use crate::track::TrackDrain;
@@ -30,8 +30,9 @@ fn drain_one<M: Media>(
         (λ fault. length ring.new.received ≡ length ring.old.received + 1) }
     ensures given { M.outside.tells
         → IsFlushed (tape_of at.run at.rings) files.old (M.outside.files media.old)
-        → AreGiven at.run (set at.rings track ring.new) files.new (M.outside.files media.new)
-        result }
+        → IsFlushed (tape_of at.run (set at.rings track ring.new)) files.new
+        (M.outside.files media.new) }
+    ensures failed { NotesFault (is_err result) files.old files.new }
     ensures fits { Fits kept.new ring.new }
     ensures of { IsTakingOf at.run.session files.new }
     ensures media { WritesTakes M.outside at.run.session at.rings (set at.rings track ring.new)
@@ -80,8 +81,9 @@ pub(crate) fn drain_ring<M: Media>(
     ensures cut { IfErr result (λ fault. HasStopped most ring.old ring.new) }
     ensures given { M.outside.tells
         → IsFlushed (tape_of at.run at.rings) files.old (M.outside.files media.old)
-        → AreGiven at.run (set at.rings track ring.new) files.new (M.outside.files media.new)
-        result }
+        → IsFlushed (tape_of at.run (set at.rings track ring.new)) files.new
+        (M.outside.files media.new) }
+    ensures failed { NotesFault (is_err result) files.old files.new }
     ensures fits { Fits kept.new ring.new }
     ensures of { IsTakingOf at.run.session files.new }
     ensures media { WritesTakes M.outside at.run.session at.rings (set at.rings track ring.new)

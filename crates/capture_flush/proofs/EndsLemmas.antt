@@ -1,9 +1,8 @@
 -- Takes are closed, one after another: what that leaves of a media.
-use Rattle.std.proofs.Common.{◌≡◌, ℕ, zero, suc, ◌+◌, ◌-◌, ◌*◌, ◌≤◌, inl, inr, Bool, true, false, List, [], ◌∷◌, ◌++◌, length, drop, refl, sym, ap, subst, ◌∙◌, arith, append_assoc, append-nil, length-append, Result, Ok, Err, OnOk, OnErr, true≢false}
-use Rattle.std.specs.Prelude.{All, ◌||◌, is_err}
+use Rattle.std.proofs.Common.{◌≡◌, ℕ, zero, suc, ◌+◌, ◌*◌, ◌≤◌, inl, inr, Bool, true, false, List, [], ◌∷◌, ◌++◌, length, drop, refl, sym, ap, subst, ◌∙◌, arith, append_assoc, append-nil, length-append, Result, Ok, Err, OnOk, OnErr, true≢false}
+use Rattle.std.specs.Prelude.{All, ◌||◌, if◌then◌else◌, is_err}
 use Rattle.std.specs.Str.{bytes_eq}
 use Rattle.std.proofs.lemmas.Bool.{or_parts}
-use Rattle.std.proofs.lemmas.List.{map-append}
 use Rattle.std.proofs.lemmas.List.Elements.{All-weaker}
 use Rattle.ses_io.specs.Faults.{risen}
 use Rattle.ses_io.specs.Files.{Files, content, with_file}
@@ -14,7 +13,8 @@ use Rattle.session_model.specs.declared.session.Session.{Session}
 use Rattle.engine_model.specs.Journal.{Entry}
 use Rattle.engine_model.specs.Takes.{take_form, take_name}
 use Rattle.capture_flush.specs.declared.run.Run.{Run}
-use Rattle.capture_flush.specs.Closing.{ClosesBut, ClosesInPart, Ends, HasHead, all_runs, closed, closed_file, ending, runs_of, track_runs}
+use Rattle.capture_flush.specs.Closing.{ClosesBut, ClosesInPart, Ends, HasHeadUnless, all_runs, closed, closed_file, ending, runs_of, track_runs}
+use Rattle.capture_flush.specs.Taking.{Taking, has_failed}
 use Rattle.capture_flush.specs.Flushed.{block_bytes}
 use Rattle.capture_flush.proofs.HeaderLemmas.{header_long}
 
@@ -67,7 +67,7 @@ module _ {V : Type 0} (outside : MediaOutside V) (s : Session) where
   -- one take
   pub ends_one : {E : Type 0} (t : ℕ) (r : Run) (old new : V) (result : Result (Unit {0}) E) → (outside.tells → OnOk result (outside.files new ≡ closed s t r (outside.files old))) →
       (outside.tells → OnErr result (ClosesInPart s t r (outside.files old) (outside.files new))) → WriteCause outside old new result → outside.read_faults new ≡ outside.read_faults old →
-      Ends outside s (track_runs t (r ∷ [])) old new (is_err result)
+      Ends outside s ((t, r) ∷ []) old new (is_err result)
   ends_one t r old new (Ok u) all part cause reads = record {
     cut = [];
     files = λ told. inl (refl, all told);
@@ -89,43 +89,49 @@ module _ {V : Type 0} (outside : MediaOutside V) (s : Session) where
 
   -- ---- the takes of a track, as far as the walk came
 
-  pub record Walked (t : ℕ) (whole rest : List Run) (old new : V) (failed : Bool) : Type 0 where
+  pub record Walked (f : Taking) (t : ℕ) (whole rest : List Run) (old new : V) (failed : Bool) : Type 0 where
     pub done : List Run
     pub parts : whole ≡ done ++ rest
-    pub ends : Ends outside s (track_runs t done) old new failed
+    pub ends : Ends outside s (track_runs f t done) old new failed
 
-  pub walked_none : (t : ℕ) (whole : List Run) (now : V) → Walked t whole whole now now false
-  walked_none t whole now = record { done = []; parts = refl; ends = ends_none now }
+  pub walked_none : (f : Taking) (t : ℕ) (whole : List Run) (now : V) → Walked f t whole whole now now false
+  walked_none f t whole now = record { done = []; parts = refl; ends = ends_none now }
 
-  joined : (t : ℕ) (xs ys : List Run) → track_runs t xs ++ track_runs t ys ≡ track_runs t (xs ++ ys)
-  joined t xs ys = sym (map-append (λ r. (t, r)) xs ys)
+  joined : (f : Taking) (t : ℕ) (xs ys : List Run) → track_runs f t xs ++ track_runs f t ys ≡ track_runs f t (xs ++ ys)
+  joined f t [] ys = refl
+  joined f t (x ∷ xs) ys = by (has_failed f t x.take) (joined f t xs ys)
+    where
+      by : (c : Bool) → track_runs f t xs ++ track_runs f t ys ≡ track_runs f t (xs ++ ys) → (if c then track_runs f t xs else (t, x) ∷ track_runs f t xs) ++ track_runs f t ys
+          ≡ (if c then track_runs f t (xs ++ ys) else (t, x) ∷ track_runs f t (xs ++ ys))
+      by true same = same
+      by false same = ap (λ l. (t, x) ∷ l) same
 
-  pub walked_more : (t : ℕ) (whole rest first more : List Run) (old middle new : V) (failed fails : Bool) → rest ≡ first ++ more → Walked t whole rest old middle failed →
-      Ends outside s (track_runs t first) middle new fails → Walked t whole more old new (failed || fails)
-  walked_more t whole rest first more old middle new failed fails parts walked ends = record {
+  pub walked_more : (f : Taking) (t : ℕ) (whole rest first more : List Run) (old middle new : V) (failed fails : Bool) → rest ≡ first ++ more → Walked f t whole rest old middle failed →
+      Ends outside s (track_runs f t first) middle new fails → Walked f t whole more old new (failed || fails)
+  walked_more f t whole rest first more old middle new failed fails parts walked ends = record {
     done = walked.done ++ first;
     parts = walked.parts ∙ ap (λ l. walked.done ++ l) parts ∙ sym (append_assoc walked.done first more);
-    ends = ends_as (track_runs t walked.done ++ track_runs t first) (track_runs t (walked.done ++ first)) old new (failed || fails) (joined t walked.done first)
-        (ends_then (track_runs t walked.done) (track_runs t first) old middle new failed fails walked.ends ends);
+    ends = ends_as (track_runs f t walked.done ++ track_runs f t first) (track_runs f t (walked.done ++ first)) old new (failed || fails) (joined f t walked.done first)
+        (ends_then (track_runs f t walked.done) (track_runs f t first) old middle new failed fails walked.ends ends);
   }
 
-  pub walked_all : (t : ℕ) (whole rest last : List Run) (old middle new : V) (failed fails : Bool) → rest ≡ last → Walked t whole rest old middle failed →
-      Ends outside s (track_runs t last) middle new fails → Ends outside s (track_runs t whole) old new (failed || fails)
-  walked_all t whole rest last old middle new failed fails parts walked ends =
-      ends_as (track_runs t walked.done ++ track_runs t last) (track_runs t whole) old new (failed || fails) (joined t walked.done last ∙ ap (track_runs t) (sym (walked.parts ∙ ap (λ l. walked.done ++ l) parts)))
-      (ends_then (track_runs t walked.done) (track_runs t last) old middle new failed fails walked.ends ends)
+  pub walked_all : (f : Taking) (t : ℕ) (whole rest last : List Run) (old middle new : V) (failed fails : Bool) → rest ≡ last → Walked f t whole rest old middle failed →
+      Ends outside s (track_runs f t last) middle new fails → Ends outside s (track_runs f t whole) old new (failed || fails)
+  walked_all f t whole rest last old middle new failed fails parts walked ends =
+      ends_as (track_runs f t walked.done ++ track_runs f t last) (track_runs f t whole) old new (failed || fails) (joined f t walked.done last ∙ ap (track_runs f t) (sym (walked.parts ∙ ap (λ l. walked.done ++ l) parts)))
+      (ends_then (track_runs f t walked.done) (track_runs f t last) old middle new failed fails walked.ends ends)
 
 -- ---- one track more
 
-track_more : (journal : List Entry) (t more : ℕ) → all_runs journal t (suc more) ≡ all_runs journal t more ++ track_runs (t + more) (runs_of (t + more) journal)
-track_more journal t zero = let e : t ≡ t + 0 = omega arith in append-nil (track_runs t (runs_of t journal)) ∙ ap (λ u. track_runs u (runs_of u journal)) e
-track_more journal t (suc more) = let e : suc t + more ≡ t + suc more = omega arith in let here = track_runs t (runs_of t journal) in
-    ap (λ l. here ++ l) (track_more journal (suc t) more ∙ ap (λ u. all_runs journal (suc t) more ++ track_runs u (runs_of u journal)) e)
-    ∙ sym (append_assoc here (all_runs journal (suc t) more) (track_runs (t + suc more) (runs_of (t + suc more) journal)))
+track_more : (f : Taking) (journal : List Entry) (t more : ℕ) → all_runs f journal t (suc more) ≡ all_runs f journal t more ++ track_runs f (t + more) (runs_of (t + more) journal)
+track_more f journal t zero = let e : t ≡ t + 0 = omega arith in append-nil (track_runs f t (runs_of t journal)) ∙ ap (λ u. track_runs f u (runs_of u journal)) e
+track_more f journal t (suc more) = let e : suc t + more ≡ t + suc more = omega arith in let here = track_runs f t (runs_of t journal) in
+    ap (λ l. here ++ l) (track_more f journal (suc t) more ∙ ap (λ u. all_runs f journal (suc t) more ++ track_runs f u (runs_of u journal)) e)
+    ∙ sym (append_assoc here (all_runs f journal (suc t) more) (track_runs f (t + suc more) (runs_of (t + suc more) journal)))
 
-pub one_track_more : (journal : List Entry) (more : ℕ) → all_runs journal 0 more ++ track_runs more (runs_of more journal) ≡ all_runs journal 0 (more + 1)
-one_track_more journal more = let e : 0 + more ≡ more = omega arith in let f : suc more ≡ more + 1 = omega arith in
-    sym (ap (all_runs journal 0) (sym f) ∙ track_more journal 0 more ∙ ap (λ u. all_runs journal 0 more ++ track_runs u (runs_of u journal)) e)
+pub one_track_more : (f : Taking) (journal : List Entry) (more : ℕ) → all_runs f journal 0 more ++ track_runs f more (runs_of more journal) ≡ all_runs f journal 0 (more + 1)
+one_track_more f journal more = let e : 0 + more ≡ more = omega arith in let up : suc more ≡ more + 1 = omega arith in
+    sym (ap (all_runs f journal 0) (sym up) ∙ track_more f journal 0 more ∙ ap (λ u. all_runs f journal 0 more ++ track_runs f u (runs_of u journal)) e)
 
 -- ---- heads stay
 
@@ -147,11 +153,11 @@ still_long s (x ∷ xs) cut q old new (inl whole) held = let name = take_name s 
     (written_long old name q (closed_file s x.0 x.1 (content old name)) (bytes_eq name q) refl (λ same. long_closed s x.0 x.1 (content old name)) held)
 still_long s (x ∷ xs) cut q old new (inr part) held = still_long s xs part.1 q part.0 new part.4 (part_long s x.0 x.1 q old part.0 part.3 held)
 
-pub heads_stay : (s : Session) (xs : List (ℕ × Run)) (cut : List (ℕ × ℕ)) (t : ℕ) (runs : List Run) (old new : Files) → ClosesBut s xs cut old new → All (HasHead s t old) runs → All (HasHead s t new) runs
-heads_stay s xs cut t runs old new but heads = All-weaker (HasHead s t old) (HasHead s t new) (λ r head some. still_long s xs cut (take_name s t r.take) old new but (head some)) runs heads
+pub heads_stay : (f : Taking) (s : Session) (xs : List (ℕ × Run)) (cut : List (ℕ × ℕ)) (t : ℕ) (runs : List Run) (old new : Files) → ClosesBut s xs cut old new → All (HasHeadUnless f s t old) runs → All (HasHeadUnless f s t new) runs
+heads_stay f s xs cut t runs old new but heads = All-weaker (HasHeadUnless f s t old) (HasHeadUnless f s t new) (λ r head fine some. still_long s xs cut (take_name s t r.take) old new but (head fine some)) runs heads
 
 -- ---- all tracks
 
-pub ends_all : {V : Type 0} (outside : MediaOutside V) (s : Session) (journal : List Entry) (track many : ℕ) (old new : V) (failed b : Bool) → track ≡ many → failed ≡ b →
-    Ends outside s (all_runs journal 0 track) old new failed → Ends outside s (all_runs journal 0 many) old new b
-ends_all outside s journal track many old new failed b all is ends = subst (λ n. Ends outside s (all_runs journal 0 n) old new b) all (subst (λ c. Ends outside s (all_runs journal 0 track) old new c) is ends)
+pub ends_all : {V : Type 0} (outside : MediaOutside V) (f : Taking) (s : Session) (journal : List Entry) (track many : ℕ) (old new : V) (failed b : Bool) → track ≡ many → failed ≡ b →
+    Ends outside s (all_runs f journal 0 track) old new failed → Ends outside s (all_runs f journal 0 many) old new b
+ends_all outside f s journal track many old new failed b all is ends = subst (λ n. Ends outside s (all_runs f journal 0 n) old new b) all (subst (λ c. Ends outside s (all_runs f journal 0 track) old new c) is ends)

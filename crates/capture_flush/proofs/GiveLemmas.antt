@@ -1,6 +1,6 @@
 -- A block is given to a file: it is added, and then the head is renewed.
-use Rattle.std.proofs.Common.{◌≡◌, inl, inr, ℕ, suc, ◌+◌, ◌-◌, ◌*◌, ◌/◌, ◌<◌, ◌≤◌, Bool, true, false, List, [], ◌∷◌, ◌++◌, length, take, drop, Option, None, Some, refl, sym, ap, ap₂, subst, ◌∙◌, arith, Result, Ok, Err, IsErr, OnOk, OnErr, true≢false}
-use Rattle.std.specs.Prelude.{replicate, nat_lt, min, max, not, ◌==◌, if◌then◌else◌}
+use Rattle.std.proofs.Common.{◌≡◌, inl, inr, ℕ, suc, ◌-◌, ◌*◌, ◌/◌, ◌<◌, ◌≤◌, Bool, true, false, ◌⊎◌, List, [], ◌∷◌, ◌++◌, length, take, drop, Option, None, Some, refl, sym, ap, ap₂, subst, ◌∙◌, arith, Result, Ok, Err, IsErr, OnOk, OnErr, true≢false}
+use Rattle.std.specs.Prelude.{replicate, nat_lt, min, max, not, ◌==◌, ◌&&◌, if◌then◌else◌}
 use Rattle.std.proofs.lemmas.Bool.{and_parts, cases_Bool, cases_lt, eqb-true, ltb-false, ne_eqb}
 use Rattle.std.proofs.lemmas.List.{length-append, length-take-le}
 use Rattle.ses_units.specs.Bits.{bits_of}
@@ -13,6 +13,7 @@ use Rattle.session_model.specs.declared.session.Session.{Session}
 use Rattle.engine_model.specs.Takes.{take_form, take_name}
 use Rattle.capture_flush.specs.declared.track.Place.{Place}
 use Rattle.capture_flush.specs.Blocks.{Block, block_samples, comes_after, is_kept}
+use Rattle.capture_flush.specs.Taking.{Taking, has_failed, is_given, last_of}
 use Rattle.capture_flush.specs.Flushed.{Gives, GivesInPart, added, block_bytes, head_of, is_new, next_index, no_blocks, renewed, second_blocks, stated, with_given}
 use Rattle.capture_flush.specs.Writes.{Adds, with_more}
 use Rattle.capture_flush.proofs.AddedLemmas.{OnlyAt, only_some, only_written}
@@ -141,31 +142,53 @@ pub record Renews {V E : Type 0} (outside : MediaOutside V) (s : Session) (t : �
   pub cause : WriteCause outside old new result
   pub reads : outside.read_faults new ≡ outside.read_faults old
 
-module _ {V : Type 0} (outside : MediaOutside V) (s : Session) (t : ℕ) (last : Option Place) (b : Block) where
+-- a block that is written is kept, and its take hasn't failed
+pub given_kept : (s : Session) (f : Taking) (t : ℕ) (b : Block) → is_given s f t b ≡ true → (is_kept s t (last_of f t) b ≡ true) × (has_failed f t b.take ≡ false)
+given_kept s f t b is = let parts = and_parts (is_kept s t (last_of f t) b) (not (has_failed f t b.take)) is in (parts.0, by (has_failed f t b.take) parts.1)
+  where
+    by : (c : Bool) → not c ≡ true → c ≡ false
+    by true is = sym is
+    by false is = refl
+
+pub given_from : (s : Session) (f : Taking) (t : ℕ) (b : Block) → is_kept s t (last_of f t) b ≡ true → has_failed f t b.take ≡ false → is_given s f t b ≡ true
+given_from s f t b kept fine = ap₂ (λ a c. a && not c) kept fine
+
+pub not_given : (s : Session) (f : Taking) (t : ℕ) (b : Block) → (is_kept s t (last_of f t) b ≡ false) ⊎ (has_failed f t b.take ≡ true) → is_given s f t b ≡ false
+not_given s f t b (inl left) = ap (λ a. a && not (has_failed f t b.take)) left
+not_given s f t b (inr failed) = ap (λ c. is_kept s t (last_of f t) b && not c) failed ∙ by (is_kept s t (last_of f t) b)
+  where
+    by : (a : Bool) → (a && false) ≡ false
+    by true = refl
+    by false = refl
+
+module _ {V : Type 0} (outside : MediaOutside V) (s : Session) (f : Taking) (t : ℕ) (b : Block) where
+  abbrev last : Option Place
+  last = last_of f t
+
   abbrev name : List ℕ
   name = take_name s t b.take
 
-  where_kept : is_kept s t last b ≡ true → (files : Files) → with_given s t last b files ≡ (if is_kept s t last b then with_given s t last b files else files)
+  where_kept : is_given s f t b ≡ true → (files : Files) → with_given s t last b files ≡ (if is_given s f t b then with_given s t last b files else files)
   where_kept is files = sym (ap (λ c. if c then with_given s t last b files else files) is)
 
   -- the files at Ok of a block that is kept
-  pub given_is : {E : Type 0} (old new : V) → is_kept s t last b ≡ true → Gives {E = E} outside s t last b old new (Ok tt) → outside.tells → outside.files new ≡ with_given s t last b (outside.files old)
+  pub given_is : {E : Type 0} (old new : V) → is_given s f t b ≡ true → Gives {E = E} outside s f t b old new (Ok tt) → outside.tells → outside.files new ≡ with_given s t last b (outside.files old)
   given_is old new is gives told = gives.all told ∙ sym (where_kept is (outside.files old))
 
   -- it was added, and the head renewed
-  pub gives-whole : {E : Type 0} (old middle new : V) (r : Result (Unit {0}) E) → is_kept s t last b ≡ true → Adds {E = E} outside name (added s t last b) old middle (Ok tt) →
-      Renews outside s t name (next_index last b.take) (suc b.index) middle new r → Gives outside s t last b old new r
+  pub gives-whole : {E : Type 0} (old middle new : V) (r : Result (Unit {0}) E) → is_given s f t b ≡ true → Adds {E = E} outside name (added s t last b) old middle (Ok tt) →
+      Renews outside s t name (next_index last b.take) (suc b.index) middle new r → Gives outside s f t b old new r
   gives-whole old middle new (Ok u) is adds renews = record {
     all = λ told. renews.all told ∙ ap (renewed s t name (next_index last b.take) (suc b.index)) (adds.all told) ∙ where_kept is (outside.files old);
     part = λ told. tt;
-    kept = tt;
+    given = tt;
     cause = record { later = omega (arith, adds.cause.later, renews.cause.later); kept = renews.cause.kept ∙ adds.cause.kept; rose = tt };
     reads = renews.reads ∙ adds.reads;
   }
   gives-whole old middle new (Err e) is adds renews = record {
     all = λ told. tt;
     part = λ told. inr (subst (λ m. OverwritesSome m (outside.files new) name 0 (head_of s t (suc b.index))) (adds.all told) (renews.part told));
-    kept = is;
+    given = is;
     cause = record {
       later = omega (arith, adds.cause.later, renews.cause.later);
       kept = tt;
@@ -175,43 +198,43 @@ module _ {V : Type 0} (outside : MediaOutside V) (s : Session) (t : ℕ) (last :
   }
 
   -- a fault came where it was added
-  pub gives-cut : {E F : Type 0} (old new : V) (e : E) (r : Result (Unit {0}) F) → IsErr r → is_kept s t last b ≡ true → Adds outside name (added s t last b) old new (Err e) → Gives outside s t last b old new r
+  pub gives-cut : {E F : Type 0} (old new : V) (e : E) (r : Result (Unit {0}) F) → IsErr r → is_given s f t b ≡ true → Adds outside name (added s t last b) old new (Err e) → Gives outside s f t b old new r
   gives-cut old new e (Ok u) err is adds = absurd (true≢false (sym err))
   gives-cut old new e (Err f) err is adds = record {
     all = λ told. tt;
     part = λ told. inl (adds.front told);
-    kept = is;
+    given = is;
     cause = record { later = adds.cause.later; kept = tt; rose = adds.cause.rose };
     reads = adds.reads;
   }
 
   -- the same of another answer
-  pub gives-err : {E F : Type 0} (old new : V) (e : E) (r : Result (Unit {0}) F) → IsErr r → Gives outside s t last b old new (Err e) → Gives outside s t last b old new r
+  pub gives-err : {E F : Type 0} (old new : V) (e : E) (r : Result (Unit {0}) F) → IsErr r → Gives outside s f t b old new (Err e) → Gives outside s f t b old new r
   gives-err old new e (Ok u) err gives = absurd (true≢false (sym err))
   gives-err old new e (Err f) err gives = record {
     all = λ told. tt;
     part = gives.part;
-    kept = gives.kept;
+    given = gives.given;
     cause = record { later = gives.cause.later; kept = tt; rose = gives.cause.rose };
     reads = gives.reads;
   }
 
   -- it is left out
-  pub gives-none : {E : Type 0} (now : V) → is_kept s t last b ≡ false → Gives {E = E} outside s t last b now now (Ok tt)
+  pub gives-none : {E : Type 0} (now : V) → is_given s f t b ≡ false → Gives {E = E} outside s f t b now now (Ok tt)
   gives-none now left = record {
     all = λ told. sym (ap (λ c. if c then with_given s t last b (outside.files now) else outside.files now) left);
     part = λ told. tt;
-    kept = tt;
+    given = tt;
     cause = record { later = omega arith; kept = refl; rose = tt };
     reads = refl;
   }
 
 -- no file but that of the take changed
-pub gives-only : {V E : Type 0} (outside : MediaOutside V) (s : Session) (t : ℕ) (last : Option Place) (b : Block) (old new : V) (r : Result (Unit {0}) E) → Gives outside s t last b old new r → outside.tells →
+pub gives-only : {V E : Type 0} (outside : MediaOutside V) (s : Session) (f : Taking) (t : ℕ) (b : Block) (old new : V) (r : Result (Unit {0}) E) → Gives outside s f t b old new r → outside.tells →
     OnlyAt (outside.files old) (outside.files new) (take_name s t b.take)
-gives-only outside s t last b old new (Ok u) gives told q other = ap (λ fs. fs q) (gives.all told) ∙ by (is_kept s t last b)
+gives-only outside s f t b old new (Ok u) gives told q other = ap (λ fs. fs q) (gives.all told) ∙ by (is_given s f t b)
   where
-    by : (k : Bool) → ◌≡◌ {A = Option (List ℕ)} ((if k then with_given s t last b (outside.files old) else outside.files old) q) (outside.files old q)
-    by true = only_given s t last b (outside.files old) q other
+    by : (k : Bool) → ◌≡◌ {A = Option (List ℕ)} ((if k then with_given s t (last_of f t) b (outside.files old) else outside.files old) q) (outside.files old q)
+    by true = only_given s t (last_of f t) b (outside.files old) q other
     by false = refl
-gives-only outside s t last b old new (Err e) gives told q other = only_part s t last b (outside.files old) (outside.files new) (gives.part told) q other
+gives-only outside s f t b old new (Err e) gives told q other = only_part s t (last_of f t) b (outside.files old) (outside.files new) (gives.part told) q other

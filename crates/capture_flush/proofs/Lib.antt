@@ -9,6 +9,7 @@ pub mod EndingLemmas
 pub mod EndsLemmas
 pub mod FinishLemmas
 pub mod FlushLemmas
+pub mod MoreLemmas
 pub mod GiveLemmas
 pub mod HeaderLemmas
 pub mod KeepLemmas

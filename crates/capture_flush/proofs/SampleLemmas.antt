@@ -52,6 +52,9 @@ samples_other s t n ks b other = ap (λ k. flat_map (piece s t n (ks ++ b ∷ []
     ∙ same_pieces (piece s t n (ks ++ b ∷ [])) (piece s t n ks) 0 (blocks_in n ks)
     (λ i low lt. ap (λ o. unwrap_or o (silent_block s t)) (block_before n i ks b (ap (λ k. k && (b.index == i)) (ne_eqb b.take n other))))
 
+pub sound_other : (s : Session) (t n : ℕ) (ks : List Block) (b : Block) → (b.take ≡ n → ⊥) → flushed_sound s t n (ks ++ b ∷ []) ≡ flushed_sound s t n ks
+sound_other s t n ks b other = ap (sound_bytes (bits_of s.bits)) (samples_other s t n ks b other)
+
 pub file_other : (s : Session) (t n : ℕ) (ks : List Block) (b : Block) → (b.take ≡ n → ⊥) → flushed_file s t n (ks ++ b ∷ []) ≡ flushed_file s t n ks
 file_other s t n ks b other = ap₂ (λ k samples. if k == 0 then None else Some (head_of s t k ++ sound_bytes (bits_of s.bits) samples)) (count_other n ks b other) (samples_other s t n ks b other)
 

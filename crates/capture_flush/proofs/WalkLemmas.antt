@@ -1,5 +1,5 @@
 -- The takes of a track, one entry after another.
-use Rattle.std.proofs.Common.{◌≡◌, ℕ, zero, suc, ◌+◌, ◌-◌, ◌<◌, ◌≤◌, List, [], ◌∷◌, ◌++◌, length, map, drop, get_or, refl, sym, ap, subst, ◌∙◌, arith, ◌^◌, Option, Some, None}
+use Rattle.std.proofs.Common.{◌≡◌, ℕ, zero, suc, ◌+◌, ◌<◌, ◌≤◌, List, [], ◌∷◌, ◌++◌, length, map, drop, get_or, refl, sym, ap, subst, ◌∙◌, arith, ◌^◌, Option, Some, None}
 use Rattle.std.specs.Prelude.{All}
 use Rattle.std.specs.Option.{option_map_or}
 use Rattle.std.proofs.lemmas.List.Elements.{All-cons, All-nil, All-head, All-tail}
@@ -12,7 +12,8 @@ use Rattle.cycle_journal.specs.declared.note.Note.{Note}
 use Rattle.cycle_journal.specs.declared.entry.Entry.{Entry}
 use Rattle.cycle_journal.specs.JournalView.{seen_take, seen_note, seen_entry, seen_entries}
 use Rattle.capture_flush.specs.declared.run.Run.{Run}
-use Rattle.capture_flush.specs.Closing.{open_after, ended_by, runs_from, HasHead}
+use Rattle.capture_flush.specs.Taking.{Taking}
+use Rattle.capture_flush.specs.Closing.{open_after, ended_by, runs_from, HasHeadUnless}
 
 -- ---- one note
 
@@ -60,16 +61,16 @@ all_last P (x ∷ xs) ys all = all_last P xs ys (All-tail P x (xs ++ ys) all)
 pub ended_few : (before : Option Run) (r : Run) → before ≡ Some r → option_map_or (λ x. x.blocks) before 0 ≤ 100000 → r.blocks ≤ 100000
 ended_few before r is few = subst (λ o. option_map_or (λ x. x.blocks) o 0 ≤ 100000) is few
 
-pub ended_head : (s : Session) (t : ℕ) (files : Files) (before : Option Run) (k : engine.Take) (r : Run) → before ≡ Some r → k ≡ engine.Off → All (HasHead s t files) (ended_by before k) → HasHead s t files r
-ended_head s t files before k r is off heads = let P : List Run → Type 0 = λ rs. All (HasHead s t files) rs in
-    All-head (HasHead s t files) r [] (subst (λ o. P (ended_by o engine.Off)) is (subst (λ j. P (ended_by before j)) off heads))
+pub ended_head : (f : Taking) (s : Session) (t : ℕ) (files : Files) (before : Option Run) (k : engine.Take) (r : Run) → before ≡ Some r → k ≡ engine.Off → All (HasHeadUnless f s t files) (ended_by before k) → HasHeadUnless f s t files r
+ended_head f s t files before k r is off heads = let P : List Run → Type 0 = λ rs. All (HasHeadUnless f s t files) rs in
+    All-head (HasHeadUnless f s t files) r [] (subst (λ o. P (ended_by o engine.Off)) is (subst (λ j. P (ended_by before j)) off heads))
 
 -- heads of the first runs, and of those behind them
-pub heads_of_first : (s : Session) (t : ℕ) (rest first more : List Run) (files : Files) → rest ≡ first ++ more → All (HasHead s t files) rest → All (HasHead s t files) first
-heads_of_first s t rest first more files parts heads = let P : List Run → Type 0 = λ rs. All (HasHead s t files) rs in all_first (HasHead s t files) first more (subst P parts heads)
+pub heads_of_first : (f : Taking) (s : Session) (t : ℕ) (rest first more : List Run) (files : Files) → rest ≡ first ++ more → All (HasHeadUnless f s t files) rest → All (HasHeadUnless f s t files) first
+heads_of_first f s t rest first more files parts heads = let P : List Run → Type 0 = λ rs. All (HasHeadUnless f s t files) rs in all_first (HasHeadUnless f s t files) first more (subst P parts heads)
 
-pub heads_of_more : (s : Session) (t : ℕ) (rest first more : List Run) (files : Files) → rest ≡ first ++ more → All (HasHead s t files) rest → All (HasHead s t files) more
-heads_of_more s t rest first more files parts heads = let P : List Run → Type 0 = λ rs. All (HasHead s t files) rs in all_last (HasHead s t files) first more (subst P parts heads)
+pub heads_of_more : (f : Taking) (s : Session) (t : ℕ) (rest first more : List Run) (files : Files) → rest ≡ first ++ more → All (HasHeadUnless f s t files) rest → All (HasHeadUnless f s t files) more
+heads_of_more f s t rest first more files parts heads = let P : List Run → Type 0 = λ rs. All (HasHeadUnless f s t files) rs in all_last (HasHeadUnless f s t files) first more (subst P parts heads)
 
 -- ---- a journal as the definitions have it
 

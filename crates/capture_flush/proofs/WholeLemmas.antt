@@ -1,6 +1,6 @@
 -- Takes that were closed are whole, but those closed in part; the files have fronts of all.
 use Rattle.std.proofs.Common.{◌≡◌, inl, inr, ℕ, zero, suc, ◌+◌, ◌≤◌, ◌<◌, List, [], ◌∷◌, ◌++◌, length, refl, sym, ap, ap₂, subst, arith, ◌∙◌}
-use Rattle.std.specs.Prelude.{Bool, true, false, ◌&&◌, ◌||◌, ◌==◌, Some, All}
+use Rattle.std.specs.Prelude.{Bool, true, false, ◌&&◌, ◌||◌, ◌==◌, if◌then◌else◌, Some, All}
 use Rattle.std.specs.List.{list_any}
 use Rattle.std.proofs.lemmas.Bool.{cases_eq, cases_lt, eq-eqb, eqb-true, false≢true, or_parts}
 use Rattle.std.proofs.lemmas.List.Elements.{All-append, All-cons, All-head, All-nil, All-tail, All-weaker}
@@ -10,6 +10,7 @@ use Rattle.engine_model.specs.Journal.{Entry}
 use Rattle.engine_model.specs.Takes.{take_file, take_name}
 use Rattle.capture_flush.specs.declared.run.Run.{Run}
 use Rattle.capture_flush.specs.Closing.{ClosesBut, ClosesInPart, all_runs, closed, closed_file, runs_of, track_runs}
+use Rattle.capture_flush.specs.Taking.{Taking, has_failed}
 use Rattle.capture_flush.specs.Finished.{AreTakesInPart, Recorded, is_among, names_take}
 use Rattle.capture_flush.proofs.AddedLemmas.{OnlyAt, only_written}
 use Rattle.capture_flush.proofs.CloseLemmas.{CanClose, IsTake, Ready, both, rising_all, still_ready, takes_of}
@@ -30,41 +31,57 @@ abbrev pub Apart : List (ℕ × Run) → Type 0
 Apart [] = Unit {0}
 Apart (x ∷ xs) = All (Differs x) xs × Apart xs
 
-of_track : (P : ℕ × Run → Type 0) (t : ℕ) (runs : List Run) → All (λ r. P (t, r)) runs → All P (track_runs t runs)
-of_track P t [] all = All-nil P
-of_track P t (r ∷ rs) all = All-cons P (t, r) (track_runs t rs) (All-head (λ q. P (t, q)) r rs all) (of_track P t rs (All-tail (λ q. P (t, q)) r rs all))
+-- it holds of a take of track t that hasn't failed
+abbrev Unless : Taking → (ℕ × Run → Type 0) → ℕ → Run → Type 0
+Unless f P t r = has_failed f t r.take ≡ false → P (t, r)
 
-in_track : (P : ℕ × Run → Type 0) (t : ℕ) (runs : List Run) → All P (track_runs t runs) → All (λ r. P (t, r)) runs
-in_track P t [] all = All-nil (λ q. P (t, q))
-in_track P t (r ∷ rs) all = All-cons (λ q. P (t, q)) r rs (All-head P (t, r) (track_runs t rs) all) (in_track P t rs (All-tail P (t, r) (track_runs t rs) all))
+of_track : (f : Taking) (P : ℕ × Run → Type 0) (t : ℕ) (runs : List Run) → All (Unless f P t) runs → All P (track_runs f t runs)
+of_track f P t [] all = All-nil P
+of_track f P t (r ∷ rs) all = by (has_failed f t r.take) refl (of_track f P t rs (All-tail (Unless f P t) r rs all))
+  where
+    by : (c : Bool) → has_failed f t r.take ≡ c → All P (track_runs f t rs) → All P (if c then track_runs f t rs else (t, r) ∷ track_runs f t rs)
+    by true is rest = rest
+    by false is rest = All-cons P (t, r) (track_runs f t rs) (All-head (Unless f P t) r rs all is) rest
+
+in_track : (f : Taking) (P : ℕ × Run → Type 0) (t : ℕ) (runs : List Run) → All P (track_runs f t runs) → All (Unless f P t) runs
+in_track f P t [] all = All-nil (Unless f P t)
+in_track f P t (r ∷ rs) all = by (has_failed f t r.take) refl all (in_track f P t rs)
+  where
+    by : (c : Bool) → has_failed f t r.take ≡ c → All P (if c then track_runs f t rs else (t, r) ∷ track_runs f t rs) → (All P (track_runs f t rs) → All (Unless f P t) rs) → All (Unless f P t) (r ∷ rs)
+    by true is those rest = All-cons (Unless f P t) r rs (λ fine. absurd (false≢true (sym fine ∙ is))) (rest those)
+    by false is those rest = All-cons (Unless f P t) r rs (λ fine. All-head P (t, r) (track_runs f t rs) those) (rest (All-tail P (t, r) (track_runs f t rs) those))
 
 -- of all takes, those of each track
-of_all : (P : ℕ × Run → Type 0) (journal : List Entry) (t more : ℕ) → ((u : ℕ) → t ≤ u → u < t + more → All (λ r. P (u, r)) (runs_of u journal)) → All P (all_runs journal t more)
-of_all P journal t zero each = All-nil P
-of_all P journal t (suc more) each = All-append P (track_runs t (runs_of t journal)) (all_runs journal (suc t) more) (of_track P t (runs_of t journal) (each t (omega arith) (omega arith)))
-    (of_all P journal (suc t) more (λ u low high. each u (omega arith) (omega arith)))
+of_all : (f : Taking) (P : ℕ × Run → Type 0) (journal : List Entry) (t more : ℕ) → ((u : ℕ) → t ≤ u → u < t + more → All (Unless f P u) (runs_of u journal)) → All P (all_runs f journal t more)
+of_all f P journal t zero each = All-nil P
+of_all f P journal t (suc more) each = All-append P (track_runs f t (runs_of t journal)) (all_runs f journal (suc t) more) (of_track f P t (runs_of t journal) (each t (omega arith) (omega arith)))
+    (of_all f P journal (suc t) more (λ u low high. each u (omega arith) (omega arith)))
 
-in_all : (P : ℕ × Run → Type 0) (journal : List Entry) (t more u : ℕ) → t ≤ u → u < t + more → All P (all_runs journal t more) → All (λ r. P (u, r)) (runs_of u journal)
-in_all P journal t zero u low high all = absurd (omega arith)
-in_all P journal t (suc more) u low high all = elim (cases_eq t u) [
-  | inl same ↦ subst (λ v. All (λ r. P (v, r)) (runs_of v journal)) same (in_track P t (runs_of t journal) (all_first P (track_runs t (runs_of t journal)) (all_runs journal (suc t) more) all))
-  | inr other ↦ in_all P journal (suc t) more u (less t u low other) (omega arith) (all_last P (track_runs t (runs_of t journal)) (all_runs journal (suc t) more) all)
+in_all : (f : Taking) (P : ℕ × Run → Type 0) (journal : List Entry) (t more u : ℕ) → t ≤ u → u < t + more → All P (all_runs f journal t more) → All (Unless f P u) (runs_of u journal)
+in_all f P journal t zero u low high all = absurd (omega arith)
+in_all f P journal t (suc more) u low high all = elim (cases_eq t u) [
+  | inl same ↦ subst (λ v. All (Unless f P v) (runs_of v journal)) same (in_track f P t (runs_of t journal) (all_first P (track_runs f t (runs_of t journal)) (all_runs f journal (suc t) more) all))
+  | inr other ↦ in_all f P journal (suc t) more u (less t u low other) (omega arith) (all_last P (track_runs f t (runs_of t journal)) (all_runs f journal (suc t) more) all)
 ]
   where
     less : (a b : ℕ) → a ≤ b → (a ≡ b → ⊥) → suc a ≤ b
     less a b le other = elim (cases_lt a b) [ inl lt ↦ omega arith | inr ge ↦ absurd (other (omega arith)) ]
 
 -- the takes of a track differ from one another, and from those of later tracks
-track_apart : (t low : ℕ) (runs : List Run) (more : List (ℕ × Run)) → Rising low runs → All (λ y. t < y.0) more → Apart more → Apart (track_runs t runs ++ more)
-track_apart t low [] more up later apart = apart
-track_apart t low (r ∷ rs) more up later apart = (
-  All-append (Differs (t, r)) (track_runs t rs) more
-      (of_track (Differs (t, r)) t rs (All-weaker (λ (q : Run). suc r.take ≤ q.take) (λ q. Differs (t, r) (t, q)) (λ q le track take. omega (arith, le, take)) rs (rising_all (suc r.take) rs up.1)))
-      (All-weaker (λ (y : ℕ × Run). t < y.0) (Differs (t, r)) (λ y lt track take. omega (arith, lt, track)) more later),
-  track_apart t (suc r.take) rs more up.1 later apart,
-)
+track_apart : (f : Taking) (t low : ℕ) (runs : List Run) (more : List (ℕ × Run)) → Rising low runs → All (λ y. t < y.0) more → Apart more → Apart (track_runs f t runs ++ more)
+track_apart f t low [] more up later apart = apart
+track_apart f t low (r ∷ rs) more up later apart = by (has_failed f t r.take) (track_apart f t (suc r.take) rs more up.1 later apart)
+  where
+    by : (c : Bool) → Apart (track_runs f t rs ++ more) → Apart ((if c then track_runs f t rs else (t, r) ∷ track_runs f t rs) ++ more)
+    by true rest = rest
+    by false rest = (
+      All-append (Differs (t, r)) (track_runs f t rs) more
+          (of_track f (Differs (t, r)) t rs (All-weaker (λ (q : Run). suc r.take ≤ q.take) (Unless f (Differs (t, r)) t) (λ q le fine track take. omega (arith, le, take)) rs (rising_all (suc r.take) rs up.1)))
+          (All-weaker (λ (y : ℕ × Run). t < y.0) (Differs (t, r)) (λ y lt track take. omega (arith, lt, track)) more later),
+      rest,
+    )
 
-module _ (run : Recorded) (journal : List Entry) (can : CanClose run journal) where
+module _ (f : Taking) (run : Recorded) (journal : List Entry) (can : CanClose run journal) where
   abbrev many : ℕ
   many = length run.session.tracks.items
 
@@ -80,18 +97,21 @@ module _ (run : Recorded) (journal : List Entry) (can : CanClose run journal) wh
   abbrev IsWhole : Files → ℕ × Run → Type 0
   IsWhole files x = files (named x) ≡ Some (take_file run.session run.input x.0 x.1.take journal)
 
-  all_apart : (t more : ℕ) → t + more ≡ many → Apart (all_runs journal t more)
+  all_apart : (t more : ℕ) → t + more ≡ many → Apart (all_runs f journal t more)
   all_apart t zero all = tt
   all_apart t (suc more) all = let lt : t < many = omega (arith, all) in
-      track_apart t 1 (runs_of t journal) (all_runs journal (suc t) more) (rising t journal (follows t journal (can.counted.takes t lt)))
-      (of_all (λ y. t < y.0) journal (suc t) more (λ u low high. each u low (runs_of u journal))) (all_apart (suc t) more (omega (arith, all)))
+      track_apart f t 1 (runs_of t journal) (all_runs f journal (suc t) more) (rising t journal (follows t journal (can.counted.takes t lt)))
+      (of_all f (λ y. t < y.0) journal (suc t) more (λ u low high. each u low (runs_of u journal))) (all_apart (suc t) more (omega (arith, all)))
     where
-      each : (u : ℕ) → suc t ≤ u → (runs : List Run) → All (λ (r : Run). t < u) runs
-      each u low [] = All-nil (λ (r : Run). t < u)
-      each u low (r ∷ rs) = All-cons (λ (q : Run). t < u) r rs (omega (arith, low)) (each u low rs)
+      Later : ℕ → Run → Type 0
+      Later u r = has_failed f u r.take ≡ false → t < u
 
-  all_are : All IsOne (all_runs journal 0 many)
-  all_are = of_all IsOne journal 0 many (λ u low high. All-weaker (IsTake run journal u) (λ r. IsOne (u, r)) (λ r is. (omega (arith, high), is)) (runs_of u journal) (takes_of run journal u can (omega (arith, high))))
+      each : (u : ℕ) → suc t ≤ u → (runs : List Run) → All (Later u) runs
+      each u low [] = All-nil (Later u)
+      each u low (r ∷ rs) = All-cons (Later u) r rs (λ fine. omega (arith, low)) (each u low rs)
+
+  all_are : All IsOne (all_runs f journal 0 many)
+  all_are = of_all f IsOne journal 0 many (λ u low high. All-weaker (IsTake run journal u) (Unless f IsOne u) (λ r is fine. (omega (arith, high), is)) (runs_of u journal) (takes_of run journal u can (omega (arith, high))))
 
   -- two takes that differ have two names
   other_name : (x y : ℕ × Run) → IsOne x → IsOne y → Differs x y → named x ≡ named y → ⊥
@@ -156,13 +176,18 @@ module _ (run : Recorded) (journal : List Entry) (can : CanClose run journal) wh
       by true same there rest = (r, eqb-true r.take n same, All-head P r rs all)
       by false other there rest = rest there
 
-  -- all takes of the journal were closed
-  pub all_ended : (cut : List (ℕ × ℕ)) (old new : Files) → ((t : ℕ) → t < many → All (Ready run journal old t) (runs_of t journal)) → AreTakesInPart run journal old →
-      ClosesBut run.session (all_runs journal 0 many) cut old new → AreTakesInPart run journal new ×
-      ((t n : ℕ) → t < many → names_take t n journal ≡ true → is_among t n cut ≡ false → new (take_name run.session t n) ≡ Some (take_file run.session run.input t n journal))
-  all_ended cut old new ready part but = let it = ended (all_runs journal 0 many) cut old new all_are (all_apart 0 many (omega arith)) (of_all (IsReady old) journal 0 many (λ u low high. ready u (omega (arith, high)))) part but in (
+  -- a take is ready to be closed unless it has failed
+  abbrev pub ReadyUnless : Files → ℕ → Run → Type 0
+  ReadyUnless files t r = has_failed f t r.take ≡ false → Ready run journal files t r
+
+  -- all takes of the journal were closed, but those that had failed
+  pub all_ended : (cut : List (ℕ × ℕ)) (old new : Files) → ((t : ℕ) → t < many → All (ReadyUnless old t) (runs_of t journal)) → AreTakesInPart run journal old →
+      ClosesBut run.session (all_runs f journal 0 many) cut old new → AreTakesInPart run journal new ×
+      ((t n : ℕ) → t < many → names_take t n journal ≡ true → has_failed f t n ≡ false → is_among t n cut ≡ false →
+      new (take_name run.session t n) ≡ Some (take_file run.session run.input t n journal))
+  all_ended cut old new ready part but = let it = ended (all_runs f journal 0 many) cut old new all_are (all_apart 0 many (omega arith)) (of_all f (IsReady old) journal 0 many (λ u low high. ready u (omega (arith, high)))) part but in (
     it.in_part,
-    λ t n lt is_named not. let Q : ℕ × Run → Type 0 = λ x. is_among x.0 x.1.take cut ≡ false → IsWhole new x in
-        let r = found (λ q. Q (t, q)) n (runs_of t journal) (in_all Q journal 0 many t (omega arith) (omega (arith, lt)) it.whole) (named_run t n journal (can.counted.takes t lt) is_named) in
-        subst (λ m. is_among t m cut ≡ false → new (take_name run.session t m) ≡ Some (take_file run.session run.input t m journal)) r.1 r.2 not,
+    λ t n lt is_named. let Q : ℕ × Run → Type 0 = λ x. is_among x.0 x.1.take cut ≡ false → IsWhole new x in
+        let r = found (Unless f Q t) n (runs_of t journal) (in_all f Q journal 0 many t (omega arith) (omega (arith, lt)) it.whole) (named_run t n journal (can.counted.takes t lt) is_named) in
+        subst (λ m. has_failed f t m ≡ false → is_among t m cut ≡ false → new (take_name run.session t m) ≡ Some (take_file run.session run.input t m journal)) r.1 r.2,
   )

@@ -1,5 +1,5 @@
 -- How the take files of a journal are closed, one after another (own).
-use Rattle.std.specs.Prelude.{◌≡◌, ℕ, zero, suc, ◌+◌, ◌*◌, ◌-◌, ◌%◌, ◌^◌, ◌==◌, ◌<◌, ◌≤◌, min, Bool, true, false, ◌⊎◌, if◌then◌else◌, List, [], ◌∷◌, ◌++◌, length, map, drop, replicate, Option, Some, None}
+use Rattle.std.specs.Prelude.{◌≡◌, ℕ, zero, suc, ◌+◌, ◌*◌, ◌-◌, ◌%◌, ◌^◌, ◌==◌, ◌<◌, ◌≤◌, min, Bool, true, false, ◌⊎◌, if◌then◌else◌, List, [], ◌∷◌, ◌++◌, length, drop, replicate, Option, Some, None}
 use Rattle.std.specs.Option.{option_map_or}
 use Rattle.ses_io.specs.Faults.{risen}
 use Rattle.ses_io.specs.Files.{Files, content, with_file}
@@ -9,6 +9,7 @@ use Rattle.session_model.specs.declared.session.Session.{Session}
 use Rattle.engine_model.specs.Journal.{Take, Off, Taken, Lost, Entry, note_of}
 use Rattle.engine_model.specs.Takes.{take_form, take_name}
 use Rattle.capture_flush.specs.declared.run.Run.{Run}
+use Rattle.capture_flush.specs.Taking.{Taking, has_failed}
 use Rattle.capture_flush.specs.Flushed.{no_blocks, block_bytes, IsFront}
 
 -- ---- the takes of a track, as they follow one another in a journal
@@ -62,16 +63,21 @@ ClosesInPart s t run old new = let name = take_name s t run.take in (new ≡ old
 abbrev pub HasHead : Session → ℕ → Files → Run → Type 0
 HasHead s t files run = 0 < run.filled → 44 ≤ length (content files (take_name s t run.take))
 
+-- so it is unless the take has failed
+abbrev pub HasHeadUnless : Taking → Session → ℕ → Files → Run → Type 0
+HasHeadUnless f s t files run = has_failed f t run.take ≡ false → HasHead s t files run
+
 -- ---- all files
 
--- these takes of track t, each by its track
-abbrev pub track_runs : ℕ → List Run → List (ℕ × Run)
-track_runs t runs = map (λ r. (t, r)) runs
+-- these takes of track t, each by its track, but for those that have failed
+abbrev pub track_runs : Taking → ℕ → List Run → List (ℕ × Run)
+track_runs f t [] = []
+track_runs f t (r ∷ rs) = if has_failed f t r.take then track_runs f t rs else (t, r) ∷ track_runs f t rs
 
 -- those of so many tracks from track t on
-abbrev pub all_runs : List Entry → ℕ → ℕ → List (ℕ × Run)
-all_runs journal t zero = []
-all_runs journal t (suc more) = track_runs t (runs_of t journal) ++ all_runs journal (suc t) more
+abbrev pub all_runs : Taking → List Entry → ℕ → ℕ → List (ℕ × Run)
+all_runs f journal t zero = []
+all_runs f journal t (suc more) = track_runs f t (runs_of t journal) ++ all_runs f journal (suc t) more
 
 -- each of the takes was closed, but those of the list `cut`, each by its track and its number, in part
 abbrev pub ClosesBut : Session → List (ℕ × Run) → List (ℕ × ℕ) → Files → Files → Type 0

@@ -7,6 +7,7 @@ use Rattle.engine_model.specs.Journal.{Take, Off, Taken, Lost, Entry, note_of}
 use Rattle.engine_model.specs.Fits.{take_number, next_take}
 use Rattle.engine_model.specs.Takes.{Input, take_file, take_name}
 use Rattle.capture_flush.specs.Blocks.{taken_blocks}
+use Rattle.capture_flush.specs.Taking.{Taking, has_failed}
 use Rattle.capture_flush.specs.Flushed.{Tape, IsFront}
 
 -- ---- a journal whose takes are counted
@@ -53,21 +54,27 @@ pub record AreTakes (run : Recorded) (journal : List Entry) (files : Files) : Ty
       files (take_name run.session t n) ≡ Some (take_file run.session run.input t n journal)
   pub others : (q : List ℕ) → ¬ (IsNamed run.session journal q) → files q ≡ run.held q
 
--- After a fault: only files of takes that the journal names differ, and from byte 44 on, where the sound begins, each has a front of its take.
+-- Only files of takes that the journal names differ, and from byte 44 on, where the sound begins, each has a front of its take.
 pub record AreTakesInPart (run : Recorded) (journal : List Entry) (files : Files) : Type 0 where
   pub takes : (t n : ℕ) → t < length run.session.tracks.items → names_take t n journal ≡ true →
       IfSome (files (take_name run.session t n)) (λ bytes. IsFront (drop 44 bytes) (drop 44 (take_file run.session run.input t n journal)))
   pub others : (q : List ℕ) → ¬ (IsNamed run.session journal q) → files q ≡ run.held q
 
+-- The files hold exactly the takes that the journal names but those that had failed, and of these a front.
+pub record AreTakesBut (run : Recorded) (journal : List Entry) (f : Taking) (files : Files) : Type 0 where
+  pub takes : (t n : ℕ) → t < length run.session.tracks.items → names_take t n journal ≡ true → has_failed f t n ≡ false →
+      files (take_name run.session t n) ≡ Some (take_file run.session run.input t n journal)
+  pub in_part : AreTakesInPart run journal files
+
 -- the take stands in a list of takes, each by its track and its number
 abbrev pub is_among : ℕ → ℕ → List (ℕ × ℕ) → Bool
 is_among t n takes = list_any (λ c. c.0 == t && c.1 == n) takes
 
--- Each take that the journal names is whole, but for no more than writes failed.
-pub record AreWholeBut (run : Recorded) (journal : List Entry) (before after : ℕ) (files : Files) : Type 0 where
+-- Each take that the journal names is whole, but for those that had failed, and for no more than writes failed since.
+pub record AreWholeBut (run : Recorded) (journal : List Entry) (f : Taking) (before after : ℕ) (files : Files) : Type 0 where
   -- these, each by its track and its number
   pub cut : List (ℕ × ℕ)
   -- no more of them than the count of failed writes rose by; it stands still at its end
   pub many : min (before + length cut) (2 ^ 64 - 1) ≤ after
-  pub whole : (t n : ℕ) → t < length run.session.tracks.items → names_take t n journal ≡ true → is_among t n cut ≡ false →
+  pub whole : (t n : ℕ) → t < length run.session.tracks.items → names_take t n journal ≡ true → has_failed f t n ≡ false → is_among t n cut ≡ false →
       files (take_name run.session t n) ≡ Some (take_file run.session run.input t n journal)

@@ -1,5 +1,5 @@
 -- What take files hold while blocks come: a header, the blocks in their order, and zeros for those that were skipped (own).
-use Rattle.std.specs.Prelude.{◌≡◌, ℕ, ◌*◌, ◌<◌, ◌/◌, ◌-◌, ◌==◌, nat_lt, min, max, suc, Bool, true, not, if◌then◌else◌, ℤ, List, [], ◌∷◌, ◌++◌, take, drop, replicate, flat_map, unwrap_or, Option, Some, None, IfSome, codes, Result, OnOk, OnErr, ◌⊎◌}
+use Rattle.std.specs.Prelude.{◌≡◌, ℕ, ◌*◌, ◌<◌, ◌/◌, ◌-◌, ◌==◌, nat_lt, min, max, suc, Bool, true, false, not, if◌then◌else◌, ℤ, List, [], ◌∷◌, ◌++◌, take, drop, replicate, flat_map, unwrap_or, Option, Some, None, IfSome, codes, Result, OnOk, OnErr, ◌⊎◌}
 use Rattle.std.specs.List.{range_with_len}
 use Rattle.ses_units.specs.Bits.{bits_of}
 use Rattle.ses_io.specs.Files.{Files, HasNameUnder, content, with_file, overwritten, AppendsSomeTo, OverwritesSome}
@@ -8,8 +8,8 @@ use Rattle.sound_model.specs.Wav.{header, sound_bytes}
 use Rattle.session_model.specs.declared.session.Session.{Session}
 use Rattle.engine_model.specs.Takes.{silent_block, take_form, take_name}
 use Rattle.capture_flush.specs.declared.track.Place.{Place}
-use Rattle.capture_flush.specs.Blocks.{Block, block_samples, block_at, blocks_in, is_kept, kept, last_from}
-use Rattle.capture_flush.specs.Taking.{Taking, last_of}
+use Rattle.capture_flush.specs.Blocks.{Block, block_samples, block_at, blocks_in, kept, last_from}
+use Rattle.capture_flush.specs.Taking.{Taking, has_failed, is_given, last_of}
 use Rattle.capture_flush.specs.Writes.{with_more}
 use Rattle.std.specs.Prelude.{length}
 
@@ -73,24 +73,23 @@ IsTakeName s q = (t : ℕ) × (n : ℕ) × (t < length s.tracks.items) × (take_
 abbrev pub IsFresh : Tape → Type 0
 IsFresh tape = ¬ (HasNameUnder tape.held (tape.session.takes ++ codes "-"))
 
--- The files hold what they held, and of each take what was kept.
-pub record IsFlushed (tape : Tape) (f : Taking) (files : Files) : Type 0 where
-  pub fresh : IsFresh tape
-  pub last : (t : ℕ) → t < length tape.session.tracks.items → last_of f t ≡ last_from tape.session t None (tape.blocks t)
-  pub takes : (t n : ℕ) → t < length tape.session.tracks.items → files (take_name tape.session t n) ≡ flushed_file tape.session t n (kept_of tape t)
-  pub others : (q : List ℕ) → ¬ (IsTakeName tape.session q) → files q ≡ tape.held q
-
 -- these are the first of those
 abbrev pub IsFront : List ℕ → List ℕ → Type 0
 IsFront front whole = (n : ℕ) × (front ≡ take n whole)
 
--- After a fault: from byte 44 on, where the sound begins, each file has a front of what was kept; the others are as they were.
+-- From byte 44 on, where the sound begins, the file of each take has a front of what was kept; the others are as they were.
 pub record IsFlushedInPart (tape : Tape) (files : Files) : Type 0 where
   pub fresh : IsFresh tape
   pub takes : (t n : ℕ) → t < length tape.session.tracks.items →
       IfSome (files (take_name tape.session t n)) (λ bytes. IsFront (drop 44 bytes) (flushed_sound tape.session t n (kept_of tape t)))
   pub none : (t n : ℕ) → t < length tape.session.tracks.items → blocks_in n (kept_of tape t) ≡ 0 → files (take_name tape.session t n) ≡ None
   pub others : (q : List ℕ) → ¬ (IsTakeName tape.session q) → files q ≡ tape.held q
+
+-- The files hold what they held, and of each take what was kept; of one that failed a front of it.
+pub record IsFlushed (tape : Tape) (f : Taking) (files : Files) : Type 0 where
+  pub last : (t : ℕ) → t < length tape.session.tracks.items → last_of f t ≡ last_from tape.session t None (tape.blocks t)
+  pub takes : (t n : ℕ) → t < length tape.session.tracks.items → has_failed f t n ≡ false → files (take_name tape.session t n) ≡ flushed_file tape.session t n (kept_of tape t)
+  pub in_part : IsFlushedInPart tape files
 
 -- ---- what a block adds to its file
 
@@ -129,12 +128,12 @@ GivesInPart s t last b old new = let name = take_name s t b.take in AppendsSomeT
     ⊎ OverwritesSome (with_more old name (added s t last b)) new name 0 (head_of s t (suc b.index))
 
 -- What a block that is passed does to a media.
-pub record Gives {V E : Type 0} (outside : MediaOutside V) (s : Session) (t : ℕ) (last : Option Place) (b : Block) (old new : V) (result : Result (Unit {0}) E) : Type 0 where
-  -- it is given where it is kept
-  pub all : outside.tells → OnOk result (outside.files new ≡ (if is_kept s t last b then with_given s t last b (outside.files old) else outside.files old))
-  -- and a part of it after a fault, which comes only where it is kept
-  pub part : outside.tells → OnErr result (GivesInPart s t last b (outside.files old) (outside.files new))
-  pub kept : OnErr result (is_kept s t last b ≡ true)
+pub record Gives {V E : Type 0} (outside : MediaOutside V) (s : Session) (f : Taking) (t : ℕ) (b : Block) (old new : V) (result : Result (Unit {0}) E) : Type 0 where
+  -- it is written where it is kept and its take hasn't failed
+  pub all : outside.tells → OnOk result (outside.files new ≡ (if is_given s f t b then with_given s t (last_of f t) b (outside.files old) else outside.files old))
+  -- and a part of it after a fault, which comes only there
+  pub part : outside.tells → OnErr result (GivesInPart s t (last_of f t) b (outside.files old) (outside.files new))
+  pub given : OnErr result (is_given s f t b ≡ true)
   -- and only where the count rose
   pub cause : WriteCause outside old new result
   -- no read failed

@@ -9,17 +9,12 @@ use Rattle.engine_model.specs.Journal.{Entry}
 use Rattle.engine_model.specs.Fits.{is_lawful}
 use Rattle.engine_model.specs.Takes.{route_name}
 use Rattle.capture_flush.specs.Blocks.{Block, taken_blocks}
-use Rattle.capture_flush.specs.Taking.{Taking}
-use Rattle.capture_flush.specs.Flushed.{Tape, IsFlushed, IsFlushedInPart, block_bytes, second_blocks, stated}
+use Rattle.capture_flush.specs.Flushed.{Tape, IsFlushedInPart, block_bytes, second_blocks, stated}
 use Rattle.capture_flush.specs.Finished.{IsCounted, Recorded, AreTakesInPart}
 
 -- In a lawful journal takes are counted.
 abbrev pub ALawfulJournalIsCounted : Type 0
 ALawfulJournalIsCounted = (s : Session) (edits : List Edit) (journal : List Entry) → is_lawful s edits journal ≡ true → IsCounted s journal
-
--- What was flushed is flushed in part.
-abbrev pub FlushedIsInPart : Type 0
-FlushedIsInPart = (tape : Tape) (f : Taking) (files : Files) → IsFlushed tape f files → IsFlushedInPart tape files
 
 -- the names of the tracks' routes are names
 abbrev pub HasNamedTracks : Session → Type 0

@@ -5,8 +5,8 @@ ghost use Rattle.ses_io.specs.Outside.{WriteCause};
 ghost use Rattle.session_model.specs.declared.session.Session.{Session as Opened};
 ghost use Rattle.engine_model.specs.Journal.{note_of};
 ghost use Rattle.cycle_journal.specs.JournalView.{seen_take, seen_entry, seen_entries};
-ghost use Rattle.capture_flush.specs.Closing.{ended_by, runs_of, track_runs, Ends, HasHead};
-ghost use Rattle.capture_flush.specs.Finished.{IsCounted, Recorded, tape_of, AreTakes, AreTakesInPart, AreWholeBut};
+ghost use Rattle.capture_flush.specs.Closing.{ended_by, runs_of, track_runs, Ends, HasHeadUnless};
+ghost use Rattle.capture_flush.specs.Finished.{IsCounted, Recorded, tape_of, AreTakesBut, AreTakesInPart, AreWholeBut};
 ghost use Rattle.capture_flush.specs.Flushed.{IsFlushed};
 ghost use Rattle.capture_flush.specs.Taking.{IsTakingOf};
 
@@ -32,7 +32,7 @@ fn either(first: bool, last: bool) -> bool
 }
 
 impl TakeFiles {
-    // Closes the take that a note ends, if it ends one, and answers whether a write failed.
+    // Closes the take that a note ends, if it ends one and it hasn't failed, and answers whether a write failed.
     fn close_ended<M: Media>(
         &mut self,
         media: &mut M,
@@ -44,14 +44,21 @@ impl TakeFiles {
         requires of { IsTakingOf s self.old }
         requires track { track < length s.tracks.items }
         requires few { option_map_or (λ r. r.blocks) before 0 ≤ 100000 }
-        requires heads { M.outside.tells → All (HasHead s track (M.outside.files media.old))
+        requires heads { M.outside.tells → All
+            (HasHeadUnless self.old s track (M.outside.files media.old))
             (ended_by before (seen_take take)) }
-        ensures ends { Ends M.outside s (track_runs track (ended_by before (seen_take take)))
+        ensures ends { Ends M.outside s
+            (track_runs self.old track (ended_by before (seen_take take)))
             media.old media.new result }
         ensures same { self.new ≡ self.old }
     {
         match (before, take) {
-            (Some(run), Take::Off) => self.close(media, track, run).is_err(),
+            (Some(run), Take::Off) => {
+                if self.has_failed(track, run.take) {
+                    return false;
+                }
+                self.close(media, track, run).is_err()
+            }
             _ => false,
         }
     }
@@ -63,9 +70,10 @@ impl TakeFiles {
         requires track { track < length s.tracks.items }
         requires few { length entries.now ≤ 100000 }
         requires notes { All (λ e. length e.notes.items ≡ length s.tracks.items) entries.now }
-        requires heads { M.outside.tells → All (HasHead s track (M.outside.files media.old))
+        requires heads { M.outside.tells → All
+            (HasHeadUnless self.old s track (M.outside.files media.old))
             (runs_of track (seen_entries entries.now)) }
-        ensures ends { Ends M.outside s (track_runs track
+        ensures ends { Ends M.outside s (track_runs self.old track
             (runs_of track (seen_entries entries.now))) media.old media.new result }
         ensures same { self.new ≡ self.old }
     {
@@ -82,9 +90,9 @@ impl TakeFiles {
     }
 
     /// Makes each take that the journal names whole: zeros for blocks that were lost, also where all were, the pad byte
-    /// and the header. The blocks passed were those that the journal took, and none failed. It goes on behind a take at
-    /// which a write fails: after a WriteFault no more takes aren't whole than writes failed, and each file has a front of
-    /// its sound; what the header of one that isn't whole is then isn't said.
+    /// and the header. The blocks passed were those that the journal took. A take that has failed is left as it is. It
+    /// goes on behind a take at which a write fails: after a WriteFault no more of the others aren't whole than writes
+    /// failed, and each file has a front of its sound; what the header of one that isn't whole is then isn't said.
     pub fn finish<M: Media>(&mut self, media: &mut M, j: &Journal) -> Result<(), WriteFault>
         ghost run: { Recorded }
         requires of { IsTakingOf run.session self.old }
@@ -93,11 +101,11 @@ impl TakeFiles {
         requires flushed { M.outside.tells → IsFlushed (tape_of run (seen_entries j.now.items))
             self.old (M.outside.files media.old) }
         ensures takes { M.outside.tells → OnOk result
-            (AreTakes run (seen_entries j.now.items) (M.outside.files media.new)) }
+            (AreTakesBut run (seen_entries j.now.items) self.old (M.outside.files media.new)) }
         ensures in_part { M.outside.tells → OnErr result
             (AreTakesInPart run (seen_entries j.now.items) (M.outside.files media.new)) }
         ensures goes_on { M.outside.tells → OnErr result
-            (AreWholeBut run (seen_entries j.now.items) (M.outside.write_faults media.old)
+            (AreWholeBut run (seen_entries j.now.items) self.old (M.outside.write_faults media.old)
             (M.outside.write_faults media.new) (M.outside.files media.new)) }
         ensures cause { WriteCause M.outside media.old media.new result }
         ensures reads { M.outside.read_faults media.new ≡ M.outside.read_faults media.old }

@@ -1,18 +1,18 @@
 //! Blocks that come: each goes to the end of the file of its take, behind zeros for those that were skipped.
-ghost use Rattle.std.specs.Prelude.{◌≡◌, ◌<◌, ◌≤◌, ◌*◌, length, Some, true, false, IsOk, OnOk, OnErr};
+ghost use Rattle.std.specs.Prelude.{◌≡◌, ◌<◌, ◌≤◌, ◌*◌, length, Some, true, false, is_err, IsOk};
 ghost use Rattle.ses_units.specs.Bits.{bits_of};
 ghost use Rattle.sound_model.specs.Wav.{sound_bytes};
 ghost use Rattle.session_model.specs.declared.session.Session.{Session as Opened};
 ghost use Rattle.engine_model.specs.Changes.{changed_at};
 ghost use Rattle.engine_model.specs.Takes.{take_name};
 ghost use Rattle.capture_flush.specs.Blocks.{block_of, block_samples, is_kept};
-ghost use Rattle.capture_flush.specs.Flushed.{Tape, with_block, IsFlushed, IsFlushedInPart, Gives, added, is_new, next_index};
-ghost use Rattle.capture_flush.specs.Taking.{IsTakingOf, last_of, after_block};
+ghost use Rattle.capture_flush.specs.Flushed.{Tape, with_block, IsFlushed, Gives, added, is_new, next_index};
+ghost use Rattle.capture_flush.specs.Taking.{IsTakingOf, after_block, is_given, last_of};
 ghost use Rattle.capture_flush.specs.Writes.{Adds};
 
 use crate::fault::WriteFault;
 use crate::takes::{TakeFiles, sample_size};
-use crate::track::{Place, TrackTakes};
+use crate::track::{FailedTake, Place, TrackTakes};
 use crate::writes::{append_all, begin};
 use piece_item::TakeBlock;
 use ses_io::{FixedList, Media};
@@ -121,8 +121,8 @@ impl TakeFiles {
         ghost s: { Opened }
         requires of { IsTakingOf s self.old }
         requires track { track < length s.tracks.items }
-        requires kept { is_kept s track (last_of self.old track) (block_of b.now) ≡ true }
-        ensures gives { Gives M.outside s track (last_of self.old track) (block_of b.now)
+        requires given { is_given s self.old track (block_of b.now) ≡ true }
+        ensures gives { Gives M.outside s self.old track (block_of b.now)
             media.old media.new result }
         ensures same { self.new ≡ self.old }
     {
@@ -134,8 +134,8 @@ impl TakeFiles {
     /// Adds the block to the end of the file of its take, which a new take begins with the header of no blocks; blocks
     /// that were skipped are zeros before it. Then the head is written anew, after a new take's first block and after each
     /// second: at no time it tells of more blocks than stand in the file. A block that isn't one block of the track, or doesn't come after its last,
-    /// is left out, and nothing changes. Tracks count from 0. After a WriteFault a front of it is there, and the block
-    /// isn't noted: a block that is passed then stands behind that front, so none should be.
+    /// is left out, and nothing changes. Tracks count from 0. After a WriteFault a front of it is there, and its take has
+    /// failed: what else comes of that take is left out, while other takes, later ones of the track too, are written.
     pub fn block<M: Media>(
         &mut self,
         media: &mut M,
@@ -145,26 +145,31 @@ impl TakeFiles {
         ghost tape: { Tape }
         requires of { IsTakingOf tape.session self.old }
         requires track { track < length tape.session.tracks.items }
-        ensures state { OnOk result (self.new
-            ≡ after_block tape.session self.old track (block_of b.now)) }
-        ensures stays { OnErr result (self.new ≡ self.old) }
+        ensures state { self.new
+            ≡ after_block tape.session self.old track (block_of b.now) (is_err result) }
         ensures of { IsTakingOf tape.session self.new }
         ensures flushed { M.outside.tells → IsFlushed tape self.old (M.outside.files media.old)
-            → OnOk result (IsFlushed (with_block tape track (block_of b.now)) self.new
-            (M.outside.files media.new)) }
-        ensures in_part { M.outside.tells → IsFlushed tape self.old (M.outside.files media.old)
-            → OnErr result (IsFlushedInPart (with_block tape track (block_of b.now))
-            (M.outside.files media.new)) }
-        ensures left_out { is_kept tape.session track (last_of self.old track) (block_of b.now)
-            ≡ false → (IsOk result) × (media.new ≡ media.old) }
-        ensures gives { Gives M.outside tape.session track (last_of self.old track)
-            (block_of b.now) media.old media.new result }
+            → IsFlushed (with_block tape track (block_of b.now)) self.new
+            (M.outside.files media.new) }
+        ensures left_out { is_given tape.session self.old track (block_of b.now) ≡ false
+            → (IsOk result) × (media.new ≡ media.old) }
+        ensures gives { Gives M.outside tape.session self.old track (block_of b.now)
+            media.old media.new result }
     {
         if !self.keeps(track, b) {
             return Ok(());
         }
         let place = Place::new(b.take, b.index);
-        self.give(media, track, b)?;
+        if self.has_failed(track, b.take) {
+            keep(&mut self.tracks, track, place);
+            return Ok(());
+        }
+        if let Err(fault) = self.give(media, track, b) {
+            keep(&mut self.tracks, track, place);
+            let take = b.take;
+            self.failed.push(FailedTake { track, take });
+            return Err(fault);
+        }
         keep(&mut self.tracks, track, place);
         Ok(())
     }

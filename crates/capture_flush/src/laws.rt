@@ -1,14 +1,9 @@
 //! The laws of take files, as functions that do nothing and whose contracts are the laws.
-ghost use Rattle.capture_flush.specs.Laws.{AHeadKeepsUp, ALawfulJournalIsCounted, AnEarlyEndIsInPart, FlushedIsInPart};
+ghost use Rattle.capture_flush.specs.Laws.{AHeadKeepsUp, ALawfulJournalIsCounted, AnEarlyEndIsInPart};
 
 /// In a lawful journal the takes of each track are counted, and their blocks.
 pub fn a_lawful_journal_is_counted()
     ensures { ALawfulJournalIsCounted }
-{}
-
-/// Files that were flushed whole are flushed in part too.
-pub fn flushed_is_in_part()
-    ensures { FlushedIsInPart }
 {}
 
 /// Where flushing ended early, each file has a front of its take from byte 44 on, and no other file changed.

@@ -14,7 +14,5 @@ mod track;
 mod writes;
 
 pub use fault::WriteFault;
-pub use laws::{
-    a_head_keeps_up, a_lawful_journal_is_counted, an_early_end_is_in_part, flushed_is_in_part,
-};
+pub use laws::{a_head_keeps_up, a_lawful_journal_is_counted, an_early_end_is_in_part};
 pub use takes::TakeFiles;

@@ -1,5 +1,5 @@
 //! The take files of a run: how they are named and made, and the last block that each track's files were given.
-ghost use Rattle.std.specs.Prelude.{◌≡◌, ◌*◌, ◌/◌, ◌<◌, ◌≤◌, [], ◌++◌, length, replicate, codes, IfOk, IsTrue};
+ghost use Rattle.std.specs.Prelude.{◌≡◌, ◌*◌, ◌/◌, ◌<◌, ◌≤◌, [], ◌++◌, length, false, replicate, codes, IfOk, IsTrue};
 ghost use Rattle.ses_units.specs.Bits.{bits_of};
 ghost use Rattle.ses_units.specs.Name.{is_name};
 ghost use Rattle.ses_io.specs.Files.{Files as AllFiles, HasNameUnder};
@@ -7,14 +7,14 @@ ghost use Rattle.session_model.specs.declared.session.Session.{Session as Opened
 ghost use Rattle.session_model.specs.Valid.{IsValid};
 ghost use Rattle.engine_model.specs.Takes.{take_name};
 ghost use Rattle.capture_flush.specs.Blocks.{block_samples};
-ghost use Rattle.capture_flush.specs.Taking.{new_takes, IsTakingOf};
+ghost use Rattle.capture_flush.specs.Taking.{new_takes, has_failed, is_noted, most_failed, IsTakingOf};
 ghost use Rattle.capture_flush.specs.Laws.{HasNamedTracks};
 ghost use Rattle.capture_flush.specs.Flushed.{IsFlushed, block_bytes};
 ghost use Rattle.capture_flush.specs.Writes.{Adds};
 
 use crate::fault::WriteFault;
 use crate::names::file_name;
-use crate::track::TrackTakes;
+use crate::track::{FailedTake, TrackTakes};
 use crate::writes::append_repeated;
 use arrayvec::ArrayString;
 use ses_io::{FixedList, Media, NoMemory};
@@ -22,6 +22,9 @@ use ses_units::{Bits, Name};
 use session_model::Session;
 use std::alloc::Global;
 use std::marker::Model;
+
+/// How many takes at which a write failed can be noted.
+pub(crate) const MOST_FAILED: u32 = 1024;
 
 /// Writes the takes of a session's tracks. Contracts see what it knows of them, as a record of `specs/Taking.antt`.
 #[derive(Drop)]
@@ -31,12 +34,13 @@ pub struct TakeFiles {
     pub(crate) bits: Bits,
     pub(crate) block: u32,
     pub(crate) tracks: FixedList<TrackTakes>,
+    pub(crate) failed: FixedList<FailedTake>,
     pub(crate) bytes: Vec<u8>,
 }
 
 impl Model for TakeFiles {
     ghost use Rattle.std.specs.Prelude.{◌≡◌, ◌*◌, ◌≤◌, length};
-    ghost use Rattle.capture_flush.specs.Taking.{Taking};
+    ghost use Rattle.capture_flush.specs.Taking.{Taking, most_failed};
 
     ghost Value = { Taking };
 
@@ -46,9 +50,10 @@ impl Model for TakeFiles {
       bits = f.bits;
       block = f.block;
       tracks = f.tracks.items;
+      failed = f.failed.items;
     } };
 
-    ghost invariant = { λ f. length f.bytes.items ≡ f.block * 6 };
+    ghost invariant = { λ f. (length f.bytes.items ≡ f.block * 6) × (f.failed.room ≡ most_failed) };
 }
 
 /// The bytes of a sample.
@@ -90,6 +95,13 @@ fn tracks_of(alloc: Global, s: &Session) -> Result<FixedList<TrackTakes>, NoMemo
     Ok(tracks)
 }
 
+// Whether a take is among these.
+fn is_noted(failed: &[FailedTake], track: u32, take: u32) -> bool
+    ensures { result ≡ is_noted failed.now track take }
+{
+    failed.iter().any(|k| k.track == track && k.take == take)
+}
+
 impl TakeFiles {
     /// Files for the takes of this session's tracks, none of which is begun. No other call takes memory.
     pub fn new(alloc: Global, s: &Session) -> Result<TakeFiles, NoMemory>
@@ -106,6 +118,7 @@ impl TakeFiles {
             bits: s.bits,
             block: s.block,
             tracks: tracks_of(alloc, s)?,
+            failed: FixedList::new(alloc, MOST_FAILED)?,
             bytes: vec![in alloc; 0; s.block as usize * 6]?,
         })
     }
@@ -122,6 +135,17 @@ impl TakeFiles {
             &self.tracks.as_slice()[track as usize].name,
             take,
         )
+    }
+
+    /// Whether nothing more is written of a take: a write of it failed, or of as many takes as can be noted.
+    pub(crate) fn has_failed(&self, track: u32, take: u32) -> bool
+        ensures failed { result ≡ has_failed self.now track take }
+        ensures room { result ≡ false → length self.now.failed < most_failed }
+    {
+        if is_noted(self.failed.as_slice(), track, take) {
+            return true;
+        }
+        self.failed.len() == MOST_FAILED as usize
     }
 
     /// The samples of a block of a track.

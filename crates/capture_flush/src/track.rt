@@ -22,6 +22,15 @@ impl Place {
     }
 }
 
+/// A take at which a write failed.
+#[derive(Clone, Copy)]
+pub(crate) struct FailedTake {
+    /// Its track, from 0.
+    pub track: u32,
+    /// Its number, from 1.
+    pub take: u32,
+}
+
 /// A track as its take files need it.
 #[derive(Clone, Copy)]
 pub(crate) struct TrackTakes {

@@ -1,6 +1,6 @@
 -- What ending the process leaves: its ends are closed and say the same, and it keeps its promises over all edits.
 use Rattle.std.proofs.Common.{◌≡◌, ℕ, suc, ◌≤◌, List, [], ◌∷◌, length, refl, sym, ap, subst, ◌∙◌, arith}
-use Rattle.std.specs.Prelude.{false, map, reverse, take, drop, slice_get, Some}
+use Rattle.std.specs.Prelude.{map, reverse, take, drop, slice_get, Some}
 use Rattle.std.specs.Option.{option_map}
 use Rattle.std.proofs.lemmas.List.{append-nil, length-map, take-append-drop}
 use Rattle.std.proofs.lemmas.Option.{same_Some, slice_get-map}
@@ -197,7 +197,7 @@ module _ {V I W : Type 0} (media : MediaOutside V) (inputs : SourceOutside I) (s
     room_now = omega (arith, ap (λ (j : Listed made.Entry). j.room) closes.journal, may.rests.asked, may.rests.serves.serving.cycles)
 
     -- the process has ended
-    pub is_closed : TakesLastTurns media on now failed → now.butler.entered ≡ length now.edition.edits → (failed.write ≡ false → AllReceived now) →
+    pub is_closed : TakesLastTurns media on now failed → now.butler.entered ≡ length now.edition.edits → AllReceived now →
         IsClosed media on run (record { ending = now; stopped = stopped; failed = failed })
     is_closed last entered received = record {
       last = last;

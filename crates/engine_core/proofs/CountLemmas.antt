@@ -1,5 +1,5 @@
 -- Each count of faults rose exactly where it is noted, at the end of a run too.
-use Rattle.std.proofs.Common.{◌≡◌, List, refl, sym, ap, subst, ◌∙◌}
+use Rattle.std.proofs.Common.{◌≡◌, arith, ℕ, ◌≤◌, List, refl, sym, ap, subst, ◌∙◌}
 use Rattle.std.specs.Prelude.{Bool, true, false}
 use Rattle.std.proofs.lemmas.Bool.{true≢false}
 use Rattle.ses_io.specs.Outside.{MediaOutside, SourceOutside, SinkOutside}
@@ -18,6 +18,14 @@ use Rattle.engine_core.specs.Closed.{IsClosed}
 use Rattle.engine_core.specs.Ended.{AllAreCounted}
 use Rattle.engine_core.specs.Parted.{FinishesTakes, IsParted}
 
+-- a count that had risen has
+counted_later : (before was now : ℕ) → was ≤ now → IsCounted before was true → IsCounted before now true
+counted_later before was now later c = record {
+  later = omega (arith, c.later, later);
+  kept = λ e. absurd (true≢false e);
+  raised = λ e. omega (arith, c.raised e, later);
+}
+
 module _ {V I W : Type 0} (media : MediaOutside V) (inputs : SourceOutside I) (sinks : SinkOutside W) (on : Started V I W) (run : Run V I W) (written : Run V I W)
     (is : IsWritten media inputs sinks on run written) (c : Closed V I W) (closed : IsClosed media on written c) (run_of : Recorded) (records : Bool) (ended : Ended V I W)
     (parted : IsParted media run_of records c ended) where
@@ -33,7 +41,7 @@ module _ {V I W : Type 0} (media : MediaOutside V) (inputs : SourceOutside I) (s
   write_on before = by records refl
     where
       by : (b : Bool) → records ≡ b → ended.failed.write ≡ true
-      by true so = ((parted.finishes so).stays before).0
+      by true so = (parted.finishes so).stays before
       by false so = (parted.quiet so).1 ∙ before
 
   pub write_back : ended.failed.write ≡ false → c.failed.write ≡ false
@@ -55,9 +63,9 @@ module _ {V I W : Type 0} (media : MediaOutside V) (inputs : SourceOutside I) (s
   Written b = IsCounted (media.write_faults on.media) (media.write_faults ended.media) b
 
   -- by what finishing the takes did
-  writes_finished : FinishesTakes media run_of journal c.failed.write c.ending.butler.media ended.failed.write ended.media → (was now : Bool) → c.failed.write ≡ was → ended.failed.write ≡ now → Written now
-  writes_finished f true now before after = let stays = f.stays before in subst Written (sym before ∙ (before ∙ sym stays.0) ∙ after)
-      (counted_still (media.write_faults on.media) (media.write_faults c.ending.butler.media) (media.write_faults ended.media) true (ap media.write_faults stays.1)
+  writes_finished : FinishesTakes media run_of journal c.ending.butler.drain.files c.failed.write c.ending.butler.media ended.failed.write ended.media → (was now : Bool) → c.failed.write ≡ was → ended.failed.write ≡ now → Written now
+  writes_finished f true now before after = subst Written (sym (f.stays before) ∙ after)
+      (counted_later (media.write_faults on.media) (media.write_faults c.ending.butler.media) (media.write_faults ended.media) f.later
       (subst (IsCounted (media.write_faults on.media) (media.write_faults c.ending.butler.media)) before closed.last.writes))
   writes_finished f false false before after = counted_still (media.write_faults on.media) (media.write_faults c.ending.butler.media) (media.write_faults ended.media) false (f.kept after)
       (subst (IsCounted (media.write_faults on.media) (media.write_faults c.ending.butler.media)) before closed.last.writes)

@@ -36,11 +36,11 @@ use Rattle.engine_core.specs.Closed.{IsClosed, MayClose}
 use Rattle.engine_core.specs.Ended.{GivesBack}
 use Rattle.engine_core.specs.Lists.{HasRoom}
 use Rattle.engine_core.specs.MachineEnds.{AreRingsOfTrack, ClosesAsMachine, ClosesTo, EndsAsMachine, EndsAt}
-use Rattle.engine_core.specs.Parted.{FinishesTakes, IsParted, MayPart}
+use Rattle.engine_core.specs.Parted.{IsParted, MayPart}
 use Rattle.engine_core.specs.Passed.{AllGenuine, AreLeft, IsToldToControl, PassedOn, sounds_of}
-use Rattle.engine_core.specs.Takes.{LeavesTakes, recorded_of}
+use Rattle.engine_core.specs.Takes.{AreCut, LeavesTakes, recorded_of}
 use Rattle.engine_core.proofs.CountLemmas as count
-use Rattle.engine_core.proofs.HeardLemmas.{heard_back, of_back, takes_heard, part_heard}
+use Rattle.engine_core.proofs.HeardLemmas.{cut_heard, heard_back, of_back, takes_heard, part_heard}
 use Rattle.engine_core.proofs.JoinLemmas.{joints}
 use Rattle.engine_core.proofs.PassLemmas as pass
 use Rattle.engine_core.proofs.TakeLemmas as take
@@ -115,15 +115,8 @@ module _ {V I W : Type 0} (media : MediaOutside V) (inputs : SourceOutside I) (s
     module _ (records : Bool) (same : records ≡ on.begun.records) (ended : Ended V I W) (parted : IsParted media back records c ended) where
       -- whatever had failed
       takes_in_part : on.begun.records ≡ true → media.tells → ended.failed.write ≡ true → AreTakesInPart (recorded_of on.begun is.hears.input) journal (media.files ended.media)
-      takes_in_part recording tells failed = by c.failed.write refl
-        where
-          finishes : FinishesTakes media back journal c.failed.write c.ending.butler.media ended.failed.write ended.media
-          finishes = parted.finishes (same ∙ recording)
-
-          by : (was : Bool) → c.failed.write ≡ was → AreTakesInPart (recorded_of on.begun is.hears.input) journal (media.files ended.media)
-          by true before = subst (λ v. AreTakesInPart (recorded_of on.begun is.hears.input) journal (media.files v)) (sym (finishes.stays before).1)
-              (take.in_part media on written c closed is.hears.input heard recording tells before)
-          by false before = part_heard on.begun is.hears.input journal c.ending.ends.takes.items some_frame many_captures heard (media.files ended.media) (finishes.in_part tells before failed)
+      takes_in_part recording tells failed = part_heard on.begun is.hears.input journal c.ending.ends.takes.items some_frame many_captures heard (media.files ended.media)
+          ((parted.finishes (same ∙ recording)).in_part tells failed)
 
       pub takes : LeavesTakes media inputs on ended
       takes = record {
@@ -135,6 +128,10 @@ module _ {V I W : Type 0} (media : MediaOutside V) (inputs : SourceOutside I) (s
             (takes_heard on.begun is.hears.input journal c.ending.ends.takes.items some_frame many_captures heard (media.files ended.media) ((parted.finishes (same ∙ recording)).whole tells fine));
         in_part = λ recording tells failed. subst (λ (j : Listed made.Entry). AreTakesInPart (recorded_of on.begun is.hears.input) (seen_entries j.items) (media.files ended.media)) (sym parted.journal)
             (takes_in_part recording tells failed);
+        others = λ recording tells. subst (λ (j : Listed made.Entry). AreCut (recorded_of on.begun is.hears.input) (seen_entries j.items) on.begun.write_faults (media.write_faults ended.media) (media.files ended.media))
+            (sym parted.journal) (cut_heard on.begun is.hears.input journal c.ending.ends.takes.items some_frame many_captures heard (media.files ended.media) on.begun.write_faults (media.write_faults ended.media)
+            (take.are_cut media on written c closed (heard_back s journal c.ending.ends.takes.items) recording tells (media.write_faults ended.media) (media.files ended.media)
+            ((parted.finishes (same ∙ recording)).others tells)));
         same = λ quiet. ap media.files (parted.quiet (same ∙ quiet)).0 ∙ closed.last.serves.files.same quiet;
         unwritten = λ quiet. (parted.quiet (same ∙ quiet)).1 ∙ sym closed.last.butler_writes ∙ closed.last.serves.files.unwritten quiet;
       }

@@ -1,13 +1,12 @@
 -- What is so of playback where a run begins, and while edits come.
-use Rattle.std.proofs.Common.{◌≡◌, inl, inr, ℕ, zero, suc, ◌+◌, ◌≤◌, List, [], ◌∷◌, ◌++◌, length, refl, sym, ap, subst, arith, ◌∙◌, append-nil}
-use Rattle.std.specs.Prelude.{Bool, true, false, map, reverse, take, slice_get, Option, Some, None, Result, Ok, Err}
+use Rattle.std.proofs.Common.{◌≡◌, ℕ, zero, suc, ◌≤◌, List, [], ◌∷◌, ◌++◌, length, refl, sym, ap, subst, arith, ◌∙◌, append-nil}
+use Rattle.std.specs.Prelude.{Bool, true, false, map, take, slice_get, Option, Some, None, Result, Ok, Err}
 use Rattle.std.proofs.lemmas.List.{length-map, length-reverse, take-append-le, take_all}
 use mathlib.Core.List.{IsPrefix}
 use Rattle.ses_io.specs.Outside.{MediaOutside, SourceOutside, SinkOutside}
 use Rattle.session_model.specs.declared.session.Session.{Session}
 use Rattle.session_model.specs.declared.edit.Edit.{Edit}
 use Rattle.engine_model.specs.Due.{next_block}
-use Rattle.engine_model.specs.Items.{Kind}
 use Rattle.engine_model.specs.Journal.{Entry, rolled}
 use Rattle.engine_model.specs.Plain.{plain_entry}
 use Rattle.engine_laws.specs.SerialLaws.{none_is_held}
@@ -21,14 +20,13 @@ use Rattle.disk_ring.specs.Sender.{Sender}
 use Rattle.edit_resolve.specs.declared.reason.Refusal.{Refusal}
 use Rattle.piece_item.specs.declared.item.Item.{Item}
 use Rattle.piece_item.specs.Views.{ack_of, kind_of}
-use Rattle.butler.specs.Sends.{acks_of}
 use Rattle.control_desk.specs.declared.progress.Progress.{Progress}
 use Rattle.control_desk.specs.State.{ControlState}
 use Rattle.control_desk.specs.Standing.{is_ready}
-use Rattle.control_letter.specs.Letter.{Finishes, IsLetter, Publishes, TakesALine, edits_with}
-use Rattle.worker_pair.specs.Tied.{IsTied, IsTrackOf}
+use Rattle.control_letter.specs.Letter.{Finishes, IsLetter, edits_with}
+use Rattle.worker_pair.specs.Tied.{IsTied}
 use Rattle.engine_core.specs.declared.run.Run.{Run}
-use Rattle.engine_core.specs.Fed.{AllHeard, IsFed, PlayAsPlain, PlaysAs, acks_told, plays_of, sends_of, sent_of}
+use Rattle.engine_core.specs.Fed.{AllHeard, IsFed, PlayAsPlain, PlaysAs, plays_of, sends_of, sent_of}
 use Rattle.engine_core.specs.Shows.{made_of}
 use Rattle.engine_core.specs.Started.{Started}
 use Rattle.engine_core.specs.UnderWay.{IsUnderWay}

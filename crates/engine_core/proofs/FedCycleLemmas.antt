@@ -1,7 +1,7 @@
 -- A cycle in which all is ready plays as the plain one, whatever it takes, and all is heard after it still.
-use Rattle.std.proofs.Common.{◌≡◌, inl, inr, ℕ, suc, ◌+◌, ◌<◌, ◌≤◌, List, [], ◌∷◌, ◌++◌, length, refl, sym, ap, subst, arith, ◌∙◌}
-use Rattle.std.specs.Prelude.{◌⊎◌, ◌^◌, Bool, true, false, ◌==◌, max, if◌then◌else◌, map, reverse, slice_get, slice_index_or, Some, Result, Ok, Err}
-use Rattle.std.proofs.lemmas.Bool.{eqb-true, true≢false}
+use Rattle.std.proofs.Common.{◌≡◌, inl, inr, ℕ, suc, ◌<◌, ◌≤◌, List, [], ◌∷◌, ◌++◌, length, refl, sym, ap, subst, arith, ◌∙◌}
+use Rattle.std.specs.Prelude.{Bool, true, false, ◌==◌, max, if◌then◌else◌, map, reverse, slice_get, slice_index_or, Some, Result, Ok, Err}
+use Rattle.std.proofs.lemmas.Bool.{eqb-true}
 use Rattle.std.proofs.lemmas.List.{length-map, length-reverse, map-append}
 use Rattle.std.proofs.lemmas.Option.{get_or_from_slice_get, same_Some, slice_get_within}
 use mathlib.Core.List.{IsPrefix}
@@ -9,12 +9,11 @@ use Rattle.ses_io.specs.Outside.{MediaOutside, SourceOutside, SinkOutside}
 use Rattle.session_model.specs.declared.session.Session.{Session}
 use Rattle.session_model.specs.declared.edit.Edit.{Edit}
 use Rattle.engine_model.specs.Cycle.{entry_of}
-use Rattle.engine_model.specs.Due as engine
 use Rattle.engine_model.specs.Due.{next_block}
 use Rattle.engine_model.specs.Edits.{generation}
 use Rattle.engine_model.specs.Editions.{edition}
 use Rattle.engine_model.specs.Items.{Kind}
-use Rattle.engine_model.specs.Journal.{Entry, State, is_rolling_in, rolled}
+use Rattle.engine_model.specs.Journal.{Entry, is_rolling_in, rolled}
 use Rattle.engine_model.specs.Plain.{plain_entry, plain_state}
 use Rattle.engine_laws.specs.SerialLaws.{IsReady, none_is_held}
 use Rattle.engine_laws.proofs.HeldLemmas.{none_is_held_later}
@@ -26,7 +25,6 @@ use Rattle.edition_log.specs.EditionState.{EditionState}
 use Rattle.edition_log.proofs.PlayLaws.{editions_play_their_places}
 use Rattle.disk_ring.specs.Receiver.{Receiver}
 use Rattle.disk_ring.specs.Sender.{FoundFull, Sender}
-use Rattle.disk_ring.proofs.Beginnings.{begins_length}
 use Rattle.piece_item.specs.declared.ack.Ack.{Ack}
 use Rattle.piece_item.specs.declared.item.Item.{Item}
 use Rattle.piece_item.specs.Views.{ack_of as seen_ack}
@@ -47,7 +45,7 @@ use Rattle.worker_pair.proofs.LookLemmas.{kinds_turned}
 use Rattle.engine_core.specs.declared.failed.Failed.{Failed}
 use Rattle.engine_core.specs.declared.run.Run.{Run}
 use Rattle.engine_core.specs.Failed.{after_cycle}
-use Rattle.engine_core.specs.Fed.{AllHeard, AllReady, IsFed, IsNewest, PlaysAs, acks_told, plays_of, sends_of, sent_of}
+use Rattle.engine_core.specs.Fed.{AllHeard, AllReady, IsFed, IsNewest, PlaysAs, plays_of, sends_of, sent_of}
 use Rattle.engine_core.specs.Letters.{CyclesOn, MakesCycle}
 use Rattle.engine_core.specs.Shows.{edits_of, made_of}
 use Rattle.engine_core.specs.Started.{Started, now_of}

@@ -1,16 +1,16 @@
 -- What the items and acknowledgements of a run without letters keep, one after another, and the entry that they make.
 use Rattle.std.proofs.Common.{◌≡◌, inl, inr, ℕ, zero, suc, ◌+◌, ◌<◌, ◌≤◌, List, [], ◌∷◌, ◌++◌, length, refl, sym, ap, subst, arith, ◌∙◌, append_assoc}
-use Rattle.std.specs.Prelude.{◌⊎◌, Bool, true, false, ◌&&◌, not, ◌==◌, max, if◌then◌else◌, map, reverse, slice_get, sum_by, Some}
+use Rattle.std.specs.Prelude.{Bool, true, false, ◌&&◌, not, ◌==◌, max, if◌then◌else◌, map, reverse, slice_get, sum_by, Some}
 use Rattle.std.specs.List.{list_all, range_with_len}
 use Rattle.std.proofs.lemmas.Bool.{and_from, and_parts, not_from_false}
-use Rattle.std.proofs.lemmas.List.{map-append, reverse-append}
+use Rattle.std.proofs.lemmas.List.{reverse-append}
 use Rattle.std.proofs.lemmas.List.Folds.{list_all-append}
 use Rattle.std.proofs.lemmas.List.Sums.{sum_by-cons}
 use Rattle.std.proofs.lemmas.Option.{none-some, same_Some}
 use Rattle.session_model.specs.declared.session.Session.{Session}
 use Rattle.session_model.specs.declared.edit.Edit.{Edit}
 use Rattle.engine_model.specs.Cycle.{entry_of, is_held, notes_of, play_of, state_of}
-use Rattle.engine_model.specs.Due.{Ack, due, next_block}
+use Rattle.engine_model.specs.Due.{Ack, next_block}
 use Rattle.engine_model.specs.Editions.{Edition, edition}
 use Rattle.engine_model.specs.Edits.{generation}
 use Rattle.engine_model.specs.Fits.{next_take, records}

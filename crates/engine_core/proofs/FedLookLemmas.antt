@@ -1,8 +1,7 @@
 -- A look in a run without letters receives all that was sent, since none of it is held; and the cycle after it plays as the plain one.
-use Rattle.std.proofs.Common.{◌≡◌, inl, inr, ℕ, suc, ◌+◌, ◌<◌, ◌≤◌, List, [], ◌∷◌, ◌++◌, length, refl, sym, ap, subst, arith, ◌∙◌, le_antisymm}
-use Rattle.std.specs.Prelude.{◌⊎◌, Bool, true, false, ◌&&◌, not, map, reverse, slice_get, slice_index_or, Some, Result, Ok, Err}
-use Rattle.std.specs.List.{list_all}
-use Rattle.std.proofs.lemmas.Bool.{and_parts, cases_lt, false≢true, true≢false}
+use Rattle.std.proofs.Common.{◌≡◌, inl, inr, ℕ, ◌<◌, ◌≤◌, List, ◌∷◌, ◌++◌, length, sym, ap, subst, ◌∙◌, le_antisymm}
+use Rattle.std.specs.Prelude.{true, not, map, reverse, slice_get, slice_index_or, Some}
+use Rattle.std.proofs.lemmas.Bool.{and_parts, cases_lt, true≢false}
 use Rattle.std.proofs.lemmas.List.{map-append, reverse-append}
 use Rattle.std.proofs.lemmas.List.Folds.{list_all-append}
 use Rattle.std.proofs.lemmas.Option.{get_or_from_slice_get, slice_get_within}
@@ -14,7 +13,7 @@ use Rattle.engine_model.specs.Due.{next_block}
 use Rattle.engine_model.specs.Edits.{generation}
 use Rattle.engine_model.specs.Items.{Kind}
 use Rattle.engine_model.specs.Items as engine
-use Rattle.engine_model.specs.Journal.{Entry, rolled}
+use Rattle.engine_model.specs.Journal.{rolled}
 use Rattle.engine_laws.specs.SerialLaws.{none_is_held}
 use Rattle.engine_laws.proofs.HeldLemmas.{none_is_held_later}
 use Rattle.engine_laws.proofs.ListLemmas.{item_at}
@@ -32,11 +31,8 @@ use Rattle.butler.specs.Sends.{acks_of}
 use Rattle.piece_item.specs.declared.ack.Ack.{Ack}
 use Rattle.track_playback.specs.declared.playback.SpareBox.{SpareBox}
 use Rattle.track_playback.specs.declared.playback.SpareBox.TheVariants.{Husk, Held, Lent}
-use Rattle.track_playback.specs.declared.playback.TrackPlayback.{TrackPlayback}
-use Rattle.track_playback.specs.declared.play_position.PlayPosition.{PlayPosition}
-use Rattle.track_playback.specs.Looks as track
 use Rattle.track_playback.specs.Looks.{EndsWith, HasAllTold}
-use Rattle.track_playback.specs.SpareBoxes.{HoldsTheLast, offers, received_kinds}
+use Rattle.track_playback.specs.SpareBoxes.{HoldsTheLast, offers}
 use Rattle.process_cycle.specs.Ends.{Meet}
 use Rattle.process_cycle.specs.ProcessState.{ProcessState, entries_of, position_of}
 use Rattle.worker_pair.specs.declared.pair.Pair.{Pair}
@@ -45,8 +41,8 @@ use Rattle.worker_pair.proofs.LookLemmas.{kinds_turned}
 use Rattle.engine_core.specs.declared.run.Run.{Run}
 use Rattle.engine_core.specs.Fed.{AllHeard, IsFed, IsNewest, plays_of, sends_of, sent_of}
 use Rattle.engine_core.specs.Letters.{GathersOn}
-use Rattle.engine_core.specs.Shows.{edits_of, made_of}
-use Rattle.engine_core.specs.Started.{Started, now_of}
+use Rattle.engine_core.specs.Shows.{made_of}
+use Rattle.engine_core.specs.Started.{Started}
 use Rattle.engine_core.specs.UnderWay.{IsUnderWay}
 use Rattle.engine_core.proofs.GatherLemmas.{old_runs}
 use Rattle.engine_core.proofs.LastTurnLemmas.{same_begins}

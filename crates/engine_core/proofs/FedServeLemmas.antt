@@ -1,40 +1,36 @@
 -- How a serial cycle is fed from its beginning to its end, while no read of the media fails.
-use Rattle.std.proofs.Common.{◌≡◌, inl, inr, ℕ, ◌+◌, ◌<◌, ◌≤◌, List, [], ◌∷◌, ◌++◌, length, refl, sym, ap, subst, arith, ◌∙◌, le_trans}
-use Rattle.std.specs.Prelude.{Bool, true, false, ◌||◌, nat_le, map, slice_get, Some, Result, Ok, Err}
-use Rattle.std.proofs.lemmas.Bool.{false≢true, or_parts}
+use Rattle.std.proofs.Common.{◌≡◌, inl, inr, ◌≤◌, List, [], ◌∷◌, ◌++◌, length, sym, ap, subst, arith, ◌∙◌, le_trans}
+use Rattle.std.specs.Prelude.{Bool, true, false, ◌||◌, nat_le, slice_get}
+use Rattle.std.proofs.lemmas.Bool.{or_parts}
 use mathlib.Core.List.{IsPrefix}
 use Rattle.ses_io.specs.Outside.{MediaOutside, SourceOutside, SinkOutside}
 use Rattle.session_model.specs.declared.session.Session.{Session}
 use Rattle.session_model.specs.declared.edit.Edit.{Edit}
 use Rattle.engine_model.specs.Due.{next_block}
 use Rattle.engine_model.specs.Edits.{generation, starts}
-use Rattle.engine_model.specs.Journal.{Entry, rolled}
+use Rattle.engine_model.specs.Journal.{rolled}
 use Rattle.engine_model.specs.Plain.{plain_entry}
 use Rattle.engine_laws.specs.SerialLaws.{none_is_held}
-use Rattle.engine_laws.proofs.HeldLemmas.{none_is_held_later}
 use Rattle.engine_laws.proofs.NumberLemmas.{count_rises, count_stays}
 use Rattle.machine_laws.specs.Stands.{each_once}
-use Rattle.machine_laws.proofs.TurnLemmas.{rolled_rises}
 use Rattle.edition_log.specs.EditionState.{EditionState}
-use Rattle.butler.specs.ButlerState.{ButlerState}
 use Rattle.butler.specs.Sends.{acks_of}
-use Rattle.process_cycle.specs.ProcessState.{ProcessState, entries_of}
+use Rattle.process_cycle.specs.ProcessState.{entries_of}
 use Rattle.worker_pair.specs.declared.pair.Pair.{Pair}
 use Rattle.engine_core.specs.declared.failed.Failed.{Failed}
 use Rattle.engine_core.specs.declared.run.Run.{Run}
 use Rattle.engine_core.specs.Cycles.{IsServed, MayPlay}
 use Rattle.engine_core.specs.Failed.{has_stopped}
-use Rattle.engine_core.specs.Fed.{AllHeard, AllReady, AreTaken, Feeds, FeedsSoFar, IsFed, IsNewest, PlaysAs, PlaysPlain, acks_told, plays_of, sends_of, sent_of}
+use Rattle.engine_core.specs.Fed.{AllHeard, Feeds, FeedsSoFar, IsFed, IsNewest, PlaysAs, PlaysPlain, sent_of}
 use Rattle.engine_core.specs.Letters.{CyclesOn, EntersOn, GathersOn, TurnsOn}
 use Rattle.engine_core.specs.Shows.{edits_of, made_of}
-use Rattle.engine_core.specs.Started.{Started, now_of}
+use Rattle.engine_core.specs.Started.{Started}
 use Rattle.engine_core.specs.UnderWay.{IsUnderWay}
 use Rattle.engine_core.proofs.EnterLemmas.{either}
 use Rattle.engine_core.proofs.FedCycleLemmas.{HasPlayed, cycle_plays, read_cycled}
 use Rattle.engine_core.proofs.FedLookLemmas as look
 use Rattle.engine_core.proofs.FedTurnLemmas as turn
 use Rattle.engine_core.proofs.SerialCycleLemmas.{may_enter_now}
-use Rattle.engine_core.proofs.ServeLemmas.{workers_stand}
 
 module _ {V I W : Type 0} (media : MediaOutside V) (inputs : SourceOutside I) (sinks : SinkOutside W) (on : Started V I W) where
   abbrev s : Session

@@ -1,7 +1,7 @@
 -- A turn of the butler in a run without letters, while no read of the media has failed: what it sends isn't held, and an idle one has sent
 -- of each track what the cycle plays.
 use Rattle.std.proofs.Common.{◌≡◌, inl, inr, ℕ, ◌+◌, ◌*◌, ◌<◌, ◌≤◌, List, [], ◌∷◌, ◌++◌, length, refl, sym, ap, subst, arith, ◌∙◌, le_antisymm, length-append, append-nil}
-use Rattle.std.specs.Prelude.{◌⊎◌, ◌^◌, Bool, true, false, map, reverse, slice_get, Some, None, Result, Ok, Err}
+use Rattle.std.specs.Prelude.{◌^◌, Bool, true, false, reverse, slice_get, Some, None, Result, Ok, Err}
 use Rattle.std.proofs.lemmas.Bool.{cases_lt, false≢true, true≢false}
 use Rattle.std.proofs.lemmas.List.{length-map, length-reverse, map-append, reverse-append}
 use Rattle.std.proofs.Math.Nat.{mul-le-mul}
@@ -11,9 +11,8 @@ use Rattle.session_model.specs.declared.session.Session.{Session}
 use Rattle.session_model.specs.declared.edit.Edit.{Edit}
 use Rattle.engine_model.specs.Due as engine
 use Rattle.engine_model.specs.Due.{due, next_block}
-use Rattle.engine_model.specs.Edits.{generation, playlist_edition}
-use Rattle.engine_model.specs.Items.{Kind}
-use Rattle.engine_model.specs.Journal.{Entry, rolled}
+use Rattle.engine_model.specs.Edits.{generation}
+use Rattle.engine_model.specs.Journal.{rolled}
 use Rattle.engine_laws.specs.Kept.{Kept}
 use Rattle.engine_laws.specs.SerialLaws.{IsReady, none_is_held}
 use Rattle.engine_laws.specs.Tracked.{Tracked}
@@ -32,10 +31,8 @@ use Rattle.piece_item.specs.declared.ack.Ack.{Ack}
 use Rattle.piece_item.specs.declared.item.Item.{Item}
 use Rattle.piece_item.specs.declared.take_block.TakeBlock.{TakeBlock}
 use Rattle.piece_item.specs.Views.{kind_of}
-use Rattle.read_ahead.specs.AllServes.{total_sent}
-use Rattle.read_ahead.specs.Items.{IsFoundFull, kinds}
+use Rattle.read_ahead.specs.Items.{kinds}
 use Rattle.read_ahead.specs.declared.supply.TrackSupply.{TrackSupply}
-use Rattle.capture_drain.specs.Drains.{total_received}
 use Rattle.butler.specs.declared.turning.Turn.{Turn}
 use Rattle.butler.specs.declared.turning.Turn.TheVariants.{Moved, Idle}
 use Rattle.butler.specs.declared.faults.ButlerFault.{ButlerFault}
@@ -56,7 +53,7 @@ use Rattle.worker_pair.proofs.TurnLemmas.{others_turned}
 use Rattle.engine_core.specs.declared.failed.Failed.{Failed}
 use Rattle.engine_core.specs.declared.run.Run.{Run}
 use Rattle.engine_core.specs.Failed.{after_turn}
-use Rattle.engine_core.specs.Fed.{AllHeard, AllReady, AreTaken, IsFed, IsNewest, acks_told, plays_of, sends_of, sent_of}
+use Rattle.engine_core.specs.Fed.{AllHeard, AllReady, AreTaken, IsFed, IsNewest, plays_of, sends_of, sent_of}
 use Rattle.engine_core.specs.Letters.{TurnsOn}
 use Rattle.engine_core.specs.Shows.{edits_of, made_of}
 use Rattle.engine_core.specs.Started.{Started, now_of}

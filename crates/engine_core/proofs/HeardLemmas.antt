@@ -17,7 +17,7 @@ use Rattle.capture_flush.specs.Finished.{AreTakes, AreTakesInPart}
 use Rattle.capture_flush.specs.Flushed.{IsFront}
 use Rattle.process_cycle.specs.Captured.{AreOfInput}
 use Rattle.worker_pair.specs.Begun.{Begun}
-use Rattle.engine_core.specs.Takes.{recorded_of}
+use Rattle.engine_core.specs.Takes.{AreCut, recorded_of}
 use Rattle.engine_core.proofs.BackLemmas.{read_back, taken_back, take_back}
 
 -- the blocks that were put into the capture rings
@@ -54,6 +54,14 @@ module _ (begun : Begun) (input : Input) (journal : List Entry) (takes : List (S
   takes_heard are = record {
     takes = λ t n lt named. are.takes t n lt named ∙ ap Some (file_back begun.session input journal takes some_frame many heard t n lt);
     others = are.others;
+  }
+
+  -- but some
+  pub cut_heard : (before after : ℕ) → AreCut (recorded_of begun (heard_back begun.session journal takes)) journal before after files → AreCut (recorded_of begun input) journal before after files
+  cut_heard before after are = record {
+    cut = are.cut;
+    many = are.many;
+    whole = λ few t n lt named not. are.whole few t n lt named not ∙ ap Some (file_back begun.session input journal takes some_frame many heard t n lt);
   }
 
   -- and fronts of them

@@ -1,7 +1,7 @@
 -- What the last turns of the butler keep, one after another.
-use Rattle.std.proofs.Common.{◌≡◌, inl, inr, List, length, take, refl, sym, ap, subst, ◌∙◌, arith}
-use Rattle.std.specs.Prelude.{true, false, Result, Ok, Err}
-use Rattle.std.proofs.lemmas.Bool.{false≢true, true≢false}
+use Rattle.std.proofs.Common.{◌≡◌, List, length, take, refl, sym, ap, subst, ◌∙◌, arith}
+use Rattle.std.specs.Prelude.{true, Result, Ok, Err}
+use Rattle.std.proofs.lemmas.Bool.{false≢true}
 use Rattle.std.proofs.lemmas.List.{take_all}
 use Rattle.std.proofs.lemmas.Option.{same_Some}
 use mathlib.Core.List.{IsPrefix}
@@ -20,7 +20,6 @@ use Rattle.butler.specs.declared.turning.Turn.TheVariants.{Moved, Idle}
 use Rattle.butler.specs.declared.faults.ButlerFault.{ButlerFault}
 use Rattle.butler.specs.declared.faults.ButlerFault.TheVariants.{ReadFault, WriteFault}
 use Rattle.butler.specs.ButlerState.{ButlerState}
-use Rattle.butler.specs.Turns.{HasFlushed}
 use Rattle.process_cycle.specs.declared.ends.ProcessEnds.{ProcessEnds}
 use Rattle.process_cycle.specs.Ends.{AreOtherEnds, EndsMeet}
 use Rattle.worker_pair.specs.declared.ending.Ending.{Ending}
@@ -169,12 +168,8 @@ module _ {V : Type 0} (media : MediaOutside V) (at : At) (old : Ending V) (serve
       same_begins f.received k.sent (serves_now.met.takes t k f hk hf).passed.begins
       (subst (λ l. IsPrefix l f.received) (sym put) (subst (IsPrefix from.0.heard) (sym got) told))
 
-  -- unless a write has failed
-  pub received_last : (answer : Result Turn ButlerFault) → is_idle_answer answer ≡ true → (turns : Turns media at old answer new) → (now : At) → Serves media now new → new.butler.write_failed ≡ false → AllReceived new
-  received_last (Ok (Moved n)) idle turns now serves_now fine = absurd (false≢true idle)
-  received_last (Err fault) idle turns now serves_now fine = absurd (false≢true idle)
-  received_last (Ok Idle) idle turns now serves_now fine = by (turns.turn.answers.flushed (omega arith))
-    where
-      by : HasFlushed old.butler turns.butler → AllReceived new
-      by (inl failed) = absurd (true≢false (sym failed ∙ sym turns.turn.fails.write_failed ∙ sym (ap (λ (e : Ending V). e.butler.write_failed) turns.same) ∙ fine))
-      by (inr drained) = ring_received turns drained now serves_now
+  -- after an Idle turn all has been
+  pub received_last : (answer : Result Turn ButlerFault) → is_idle_answer answer ≡ true → (turns : Turns media at old answer new) → (now : At) → Serves media now new → AllReceived new
+  received_last (Ok (Moved n)) idle turns now serves_now = absurd (false≢true idle)
+  received_last (Err fault) idle turns now serves_now = absurd (false≢true idle)
+  received_last (Ok Idle) idle turns now serves_now = ring_received turns (turns.turn.answers.flushed (omega arith)) now serves_now

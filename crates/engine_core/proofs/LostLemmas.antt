@@ -1,6 +1,6 @@
 -- Why a serial cycle loses no block while no write of the media has failed: each that was captured was flushed before it.
-use Rattle.std.proofs.Common.{◌≡◌, inl, inr, ℕ, suc, ◌+◌, ◌<◌, ◌≤◌, List, [], ◌∷◌, ◌++◌, length, refl, sym, ap, subst, arith, ◌∙◌, length-append}
-use Rattle.std.specs.Prelude.{◌^◌, Bool, true, false, ℤ, pos, map, reverse, slice_get, slice_index_or, Some, Result, Ok, Err}
+use Rattle.std.proofs.Common.{◌≡◌, inl, inr, ℕ, suc, ◌<◌, ◌≤◌, List, [], ◌∷◌, length, refl, sym, ap, subst, arith, ◌∙◌, length-append}
+use Rattle.std.specs.Prelude.{Bool, true, false, ℤ, pos, reverse, slice_get, slice_index_or, Some, Result, Ok, Err}
 use Rattle.std.proofs.lemmas.Bool.{true≢false}
 use Rattle.std.proofs.lemmas.List.{length-map, length-reverse}
 use Rattle.std.proofs.lemmas.Option.{get_or_from_slice_get, same_Some, slice_get_within}
@@ -14,7 +14,6 @@ use Rattle.disk_ring.specs.Receiver.{Receiver}
 use Rattle.disk_ring.specs.Sender.{FoundFull, Sender}
 use Rattle.piece_item.specs.declared.take_block.TakeBlock.{TakeBlock}
 use Rattle.capture_flush.specs.Blocks.{block_of, place_of, taken_blocks, taken_from, taken_in}
-use Rattle.cycle_journal.specs.declared.note.Note.{Note}
 use Rattle.cycle_journal.specs.declared.note.Take.{Take}
 use Rattle.cycle_journal.specs.declared.note.Take.TheVariants.{Off, Taken, Lost}
 use Rattle.track_capture.specs.Counted.{HasCaptured}

@@ -181,7 +181,7 @@ module _ {V I W : Type 0} (media : MediaOutside V) (on : Started V I W) (run : R
     left failed read write t r here = let j = at t r here in record {
       items = ap (λ (z : TrackRings). z.plays.closed) j.is ∙ (is_sent t j.send j.send_at).closed_so ∙ closed.last.butler_reads ∙ sym read;
       blocks = ap (λ (z : TrackRings). z.takes.closed) j.is ∙ closed.shut.takes t j.capture j.capture_at;
-      received = λ fine. subst (λ (z : TrackRings). z.takes.received ≡ z.takes.sent) (sym j.is) (closed.received (write fine) t j.capture j.flush j.capture_at j.flush_at);
+      received = λ fine. subst (λ (z : TrackRings). z.takes.received ≡ z.takes.sent) (sym j.is) (closed.received t j.capture j.flush j.capture_at j.flush_at);
     }
 
   -- ---- acknowledgements

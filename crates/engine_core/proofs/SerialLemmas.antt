@@ -1,7 +1,7 @@
 -- What is so of a run without letters stays so, by a cycle and by a line.
-use Rattle.std.proofs.Common.{◌≡◌, inl, inr, ℕ, suc, List, [], ◌∷◌, ◌++◌, length, refl, sym, ap, subst, arith, ◌∙◌}
-use Rattle.std.specs.Prelude.{◌⊎◌, Bool, true, false, ◌&&◌, ◌||◌, not, nat_le, nat_lt, Option, Some, None, Result, Ok, Err}
-use Rattle.std.proofs.lemmas.Bool.{and_from, false≢true, leb-false, lt-ltb, not_from_false, or_from, or_parts, true≢false}
+use Rattle.std.proofs.Common.{◌≡◌, inl, inr, ℕ, List, [], ◌∷◌, length, refl, sym, ap, subst, arith, ◌∙◌}
+use Rattle.std.specs.Prelude.{◌⊎◌, true, false, ◌||◌, nat_le, Result, Ok, Err}
+use Rattle.std.proofs.lemmas.Bool.{or_from, or_parts, true≢false}
 use Rattle.std.proofs.lemmas.Option.{none-some, same_Some}
 use Rattle.ses_io.specs.Outside.{MediaOutside, SourceOutside, SinkOutside}
 use Rattle.session_model.specs.declared.session.Session.{Session}
@@ -10,9 +10,7 @@ use Rattle.engine_model.specs.Edits.{has_quit}
 use Rattle.engine_model.specs.Journal.{Entry}
 use Rattle.engine_model.specs.Lines.{Line}
 use Rattle.engine_model.specs.Replies.{Reply}
-use Rattle.machine_model.specs.Control as machine
 use Rattle.machine_model.specs.Control.{Awaited, Entries, SettledIn, is_last_settled}
-use Rattle.machine_model.specs.Core.{Core}
 use Rattle.edition_log.specs.EditionState.{EditionState}
 use Rattle.cycle_journal.specs.JournalView.{seen_entry}
 use Rattle.process_cycle.specs.declared.fault.CycleFault.{CycleFault}
@@ -26,12 +24,11 @@ use Rattle.serial_laws.specs.Paced.{IsNext, has_come}
 use Rattle.serial_laws.proofs.PacedLemmas.{each_entry_is_paced, it_is_paced_still}
 use Rattle.worker_pair.specs.declared.pair.Pair.{Pair}
 use Rattle.worker_pair.specs.Plays.{Cycles, Looks}
-use Rattle.worker_pair.specs.Steps.{may_enter}
 use Rattle.engine_core.specs.declared.run.Run.{Run}
 use Rattle.engine_core.specs.Cycles.{IsServed, MayPlay}
 use Rattle.engine_core.specs.Due.{is_line_due}
 use Rattle.engine_core.specs.Failed.{has_stopped}
-use Rattle.engine_core.specs.Letters.{CyclesOn, EntersOn, GathersOn, MakesCycle}
+use Rattle.engine_core.specs.Letters.{CyclesOn, EntersOn, MakesCycle}
 use Rattle.engine_core.specs.Fed.{PlayAsPlain, PlaysPlain}
 use Rattle.engine_core.specs.Lost.{LosesNone}
 use Rattle.engine_core.specs.Serial.{KeepsUp, PlaysNewest}

@@ -1,6 +1,6 @@
 -- What a run without letters leaves at its end, whatever has failed.
 use Rattle.std.proofs.Common.{◌≡◌, inl, inr, ℕ, ◌<◌, List, [], ◌∷◌, length, refl, sym, ap, subst, ◌∙◌}
-use Rattle.std.specs.Prelude.{Bool, true, false, ◌||◌, map, nat_le, reverse}
+use Rattle.std.specs.Prelude.{true, false, ◌||◌, map, nat_le, reverse}
 use Rattle.std.proofs.lemmas.Bool.{false≢true, or_cases, or_left, or_right}
 use Rattle.std.proofs.lemmas.List.{reverse-reverse}
 use Rattle.ses_io.specs.Outside.{MediaOutside, SourceOutside, SinkOutside}

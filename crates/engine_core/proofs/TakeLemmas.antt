@@ -1,27 +1,26 @@
 -- The takes that a closed run leaves.
-use Rattle.std.proofs.Common.{◌≡◌, ℕ, ◌<◌, List, [], ◌++◌, length, refl, sym, ap, subst, ◌∙◌, arith}
-use Rattle.std.specs.Prelude.{true, IsTrue, map, reverse, slice_get, Some, None}
+use Rattle.std.proofs.Common.{◌≡◌, ℕ, ◌<◌, List, [], ◌∷◌, ◌++◌, length, length-append, ap₂, refl, ap, subst, ◌∙◌, arith}
+use Rattle.std.specs.Prelude.{true, false, ◌||◌, ◌&&◌, ◌==◌, IfSome, drop, map, reverse, slice_get, Some, None}
 use Rattle.std.specs.Option.{option_map_or}
-use Rattle.std.proofs.lemmas.List.{map-append, reverse-reverse}
-use Rattle.ses_units.specs.Name.{is_name}
+use Rattle.std.proofs.lemmas.Bool.{ne_eqb, or_parts}
+use Rattle.std.proofs.lemmas.List.{length-map, reverse-reverse}
 use Rattle.ses_io.specs.Files.{Files}
 use Rattle.ses_io.specs.Outside.{MediaOutside}
 use Rattle.session_model.specs.declared.session.Session.{Session}
 use Rattle.engine_model.specs.Journal.{Entry}
-use Rattle.engine_model.specs.Takes.{Input}
+use Rattle.engine_model.specs.Takes.{Input, take_name}
 use Rattle.engine_laws.proofs.ListLemmas.{item_at}
 use Rattle.disk_ring.specs.Sender.{Sender}
 use Rattle.disk_ring.specs.Receiver.{Receiver}
 use Rattle.piece_item.specs.declared.take_block.TakeBlock.{TakeBlock}
 use Rattle.cycle_journal.specs.JournalView.{seen_entries}
 use Rattle.capture_flush.specs.Blocks.{block_of, taken_blocks}
-use Rattle.capture_flush.specs.Finished.{IsCounted, Recorded, AreTakesInPart}
+use Rattle.capture_flush.specs.Finished.{AreWholeBut, IsCounted, Recorded, is_among}
 use Rattle.capture_flush.specs.Finished as finished
-use Rattle.capture_flush.specs.Flushed.{Tape, IsFlushed, flushed_file}
-use Rattle.capture_flush.specs.Blocks.{kept, last_from}
-use Rattle.capture_flush.specs.Laws.{HasNamedTracks, PassesFirst}
-use Rattle.capture_flush.specs.Taking.{Taking}
-use Rattle.capture_flush.proofs.EarlyLemmas.{an_early_end_is_in_part}
+use Rattle.capture_flush.specs.Flushed.{Tape, IsFlushed, IsFront, flushed_file, flushed_sound}
+use Rattle.capture_flush.specs.Blocks.{blocks_in, kept, last_from}
+use Rattle.capture_flush.specs.Taking.{Taking, is_noted, most_failed}
+use Rattle.capture_flush.specs.declared.track.FailedTake.{FailedTake}
 use Rattle.capture_drain.specs.Files.{blocks_at, tape_of}
 use Rattle.process_cycle.specs.Captured.{AreOfInput}
 use Rattle.process_cycle.proofs.CountedLemmas.{made_counted}
@@ -37,19 +36,32 @@ use Rattle.engine_core.specs.declared.closing.Closed.{Closed}
 use Rattle.engine_core.specs.Closed.{IsClosed, SayTheSame}
 use Rattle.engine_core.specs.LastTurns.{at_last}
 use Rattle.engine_core.specs.Parted.{HasFlushed}
-use Rattle.engine_core.specs.Takes.{recorded_of}
+use Rattle.engine_core.specs.Takes.{AreCut, recorded_of}
 
 -- files that hold the blocks of a tape hold those of one with the same blocks
 same_tape : (a b : Tape) (f : Taking) (files : Files) → a.session ≡ b.session → a.held ≡ b.held → ((t : ℕ) → t < length b.session.tracks.items → a.blocks t ≡ b.blocks t) → IsFlushed a f files → IsFlushed b f files
-same_tape a b f files session held same was = let now = moved in record {
-  fresh = now.fresh;
+same_tape a b f files session held same was = let now = moved in let part = now.in_part in record {
   last = λ t lt. now.last t lt ∙ ap (last_from b.session t None) (same t lt);
-  takes = λ t n lt. now.takes t n lt ∙ ap (λ l. flushed_file b.session t n (kept b.session t l)) (same t lt);
-  others = now.others;
+  takes = λ t n lt fine. now.takes t n lt fine ∙ ap (λ l. flushed_file b.session t n (kept b.session t l)) (same t lt);
+  in_part = record {
+    fresh = part.fresh;
+    takes = λ t n lt. subst (λ l. IfSome (files (take_name b.session t n)) (λ bytes. IsFront (drop 44 bytes) (flushed_sound b.session t n (kept b.session t l)))) (same t lt) (part.takes t n lt);
+    none = λ t n lt none. part.none t n lt (ap (λ l. blocks_in n (kept b.session t l)) (same t lt) ∙ none);
+    others = part.others;
+  };
 }
   where
     moved : IsFlushed (record { session = b.session; held = b.held; blocks = a.blocks }) f files
     moved = subst (λ s. IsFlushed (record { session = s; held = b.held; blocks = a.blocks }) f files) session (subst (λ h. IsFlushed (record { session = a.session; held = h; blocks = a.blocks }) f files) held was)
+
+-- a take that failed, by its track and its number
+abbrev pair_of : FailedTake → ℕ × ℕ
+pair_of k = (k.track, k.take)
+
+not_among : (failed : List FailedTake) (cut : List (ℕ × ℕ)) (t n : ℕ) → is_among t n (map pair_of failed ++ cut) ≡ false → (is_noted failed t n ≡ false) × (is_among t n cut ≡ false)
+not_among [] cut t n none = (refl, none)
+not_among (k ∷ ks) cut t n none = let parts = or_parts (k.track == t && k.take == n) (is_among t n (map pair_of ks ++ cut)) none in let more = not_among ks cut t n parts.1 in
+    (ap (λ b. b || is_noted ks t n) parts.0 ∙ more.0, more.1)
 
 -- what was captured is of the input still
 pub of_input_still : (input : Input) (s : Session) (entries : List Entry) (old new : ProcessEnds) → SayTheSame old new → AreOfInput input s entries old.takes.items → AreOfInput input s entries new.takes.items
@@ -74,10 +86,15 @@ module _ {V I W : Type 0} (media : MediaOutside V) (on : Started V I W) (run : R
   counted = subst (IsCounted s) (reverse-reverse journal)
       (made_counted s e.edition.edits (length e.edition.edits) (map received_kinds e.ends.plays.items) (reverse journal) closed.promises.made)
 
-  -- the names of the tracks are names
-  named : HasNamedTracks s
-  named t lt = let k = item_at e.butler.drain.files.tracks t (omega (arith, lt, serves.serving.taking.many)) in let is = serves.serving.taking.tracks t k.0 k.1 in
-      subst (λ n. IsTrue (is_name n)) is.name is.named
+  -- of no more takes than writes failed, while all others are whole
+  pub are_cut : (input : Input) → on.begun.records ≡ true → media.tells → (after : ℕ) (files : Files) →
+      AreWholeBut (recorded_of on.begun input) journal e.butler.drain.files (media.write_faults e.butler.media) after files → AreCut (recorded_of on.begun input) journal on.begun.write_faults after files
+  are_cut input records tells after files but = let failed = e.butler.drain.files.failed in record {
+    cut = map pair_of failed ++ but.cut;
+    many = omega (arith, (serves.files.takes records tells).many, but.many, length-append (map pair_of failed) but.cut, length-map failed pair_of);
+    whole = λ few t n lt named not. let apart = not_among failed but.cut t n not in but.whole t n lt named
+        (ap₂ (λ a b. a || b) apart.0 (ne_eqb (length failed) most_failed (λ all. absurd (omega (arith, all, few, length-append (map pair_of failed) but.cut, length-map failed pair_of))))) apart.1;
+  }
 
   module _ (input : Input) (heard : AreOfInput input s (reverse journal) e.ends.takes.items) where
     -- the two ends of a capture ring
@@ -99,17 +116,11 @@ module _ {V I W : Type 0} (media : MediaOutside V) (on : Started V I W) (run : R
     blocks_are : (t : ℕ) (f : Receiver TakeBlock) → slice_get e.butler.ends.takes.items t ≡ Some f → blocks_at e.butler.ends.takes.items t ≡ map block_of f.received
     blocks_are t f here = ap (λ o. option_map_or (λ (r : Receiver TakeBlock). map block_of r.received) o []) here
 
-    -- unless a write has failed all of them were flushed
+    -- all of them were flushed
     pub flushed : on.begun.records ≡ true → HasFlushed media (recorded_of on.begun input) journal c.failed.write e.butler.drain.files e.butler.media
-    flushed records fine tells = same_tape (tape_of (run_of on.begun) e.butler.ends.takes.items) (finished.tape_of (recorded_of on.begun input) journal) e.butler.drain.files (media.files e.butler.media) refl refl
-        (λ t lt. let x = ends_at t lt in blocks_are t x.got x.got_at ∙ ap (map block_of) (closed.received fine t x.put x.got x.put_at x.got_at) ∙ taken t x.put x.put_at)
-        ((serves.files.takes records tells).whole (closed.last.butler_writes ∙ fine))
-
-    -- else a front of them
-    passes_first : PassesFirst (tape_of (run_of on.begun) e.butler.ends.takes.items) (recorded_of on.begun input) journal
-    passes_first t lt = let x = ends_at t lt in let rest = (serves.met.takes t x.put x.got x.put_at x.got_at).passed.begins in
-        (map block_of rest.0, sym (taken t x.put x.put_at) ∙ ap (map block_of) (sym rest.1) ∙ map-append block_of x.got.received rest.0 ∙ ap (λ l. l ++ map block_of rest.0) (sym (blocks_are t x.got x.got_at)))
-
-    pub in_part : on.begun.records ≡ true → media.tells → c.failed.write ≡ true → AreTakesInPart (recorded_of on.begun input) journal (media.files e.butler.media)
-    in_part records tells failed = an_early_end_is_in_part (tape_of (run_of on.begun) e.butler.ends.takes.items) (recorded_of on.begun input) journal (media.files e.butler.media) refl refl serves.serving.valid named counted passes_first
-        ((serves.files.takes records tells).in_part (closed.last.butler_writes ∙ failed))
+    flushed records = record {
+      flushed = λ tells. same_tape (tape_of (run_of on.begun) e.butler.ends.takes.items) (finished.tape_of (recorded_of on.begun input) journal) e.butler.drain.files (media.files e.butler.media) refl refl
+          (λ t lt. let x = ends_at t lt in blocks_are t x.got x.got_at ∙ ap (map block_of) (closed.received t x.put x.got x.put_at x.got_at) ∙ taken t x.put x.put_at)
+          (serves.files.takes records tells).flushed;
+      none_failed = λ tells fine. (serves.files.takes records tells).none_failed (closed.last.butler_writes ∙ fine);
+    }

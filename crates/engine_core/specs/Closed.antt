@@ -1,5 +1,5 @@
 -- A run whose process has ended, and whose butler has nothing left to do.
-use Rattle.std.specs.Prelude.{◌≡◌, ℕ, ◌≤◌, true, false, [], length, reverse, slice_get, Some}
+use Rattle.std.specs.Prelude.{◌≡◌, ℕ, ◌≤◌, true, [], length, reverse, slice_get, Some}
 use Rattle.ses_io.specs.Outside.{MediaOutside, SourceOutside, SinkOutside}
 use Rattle.disk_ring.specs.Sender.{Sender}
 use Rattle.disk_ring.specs.Receiver.{Receiver}
@@ -41,9 +41,9 @@ module _ {V I W : Type 0} where
   -- **The process has ended**, and the butler has nothing left to do.
   pub record IsClosed (media : MediaOutside V) (on : Started V I W) (old : Run V I W) (c : Closed V I W) : Type 0 where
     pub last : TakesLastTurns media on c.ending c.failed
-    -- it has entered all edits, and received every block unless a write has failed
+    -- it has entered all edits, and received every block
     pub entered : c.ending.butler.entered ≡ length c.ending.edition.edits
-    pub received : c.failed.write ≡ false → AllReceived c.ending
+    pub received : AllReceived c.ending
     -- the process's ends are closed, and keep its promises, over all edits
     pub ends : SayTheSame old.pair.process.ends c.ending.ends
     pub shut : AreShut c.ending.ends

@@ -1,11 +1,11 @@
 -- How takes are made whole and rings are joined, once the butler has nothing left to do.
-use Rattle.std.specs.Prelude.{◌≡◌, ◌≤◌, Bool, true, false, List, length}
+use Rattle.std.specs.Prelude.{◌≡◌, ◌≤◌, Bool, true, false, List, [], length}
 use Rattle.ses_io.specs.Faults.{risen}
 use Rattle.ses_io.specs.Outside.{MediaOutside}
 use Rattle.engine_model.specs.Journal.{Entry}
 use Rattle.cycle_journal.specs.JournalView.{seen_entries}
 use Rattle.disk_ring.specs.Rings.{Whole, joined_of}
-use Rattle.capture_flush.specs.Finished.{IsCounted, Recorded, AreTakes, AreTakesInPart, tape_of}
+use Rattle.capture_flush.specs.Finished.{IsCounted, Recorded, AreTakes, AreTakesInPart, AreWholeBut, tape_of}
 use Rattle.capture_flush.specs.Flushed.{IsFlushed}
 use Rattle.capture_flush.specs.Taking.{IsTakingOf, Taking}
 use Rattle.process_cycle.specs.Ends.{AreOtherEnds}
@@ -17,16 +17,21 @@ use Rattle.engine_core.specs.Lists.{HasRoom}
 
 -- ---- takes
 
--- the files hold exactly the blocks that the entries took, unless a write has failed
-abbrev pub HasFlushed : {V : Type 0} → MediaOutside V → Recorded → List Entry → Bool → Taking → V → Type 0
-HasFlushed media run journal failed files v = failed ≡ false → media.tells → IsFlushed (tape_of run journal) files (media.files v)
+-- The files hold exactly the blocks that the entries took, and of a take that failed a front of them.
+pub record HasFlushed {V : Type 0} (media : MediaOutside V) (run : Recorded) (journal : List Entry) (failed : Bool) (files : Taking) (v : V) : Type 0 where
+  pub flushed : media.tells → IsFlushed (tape_of run journal) files (media.files v)
+  -- none has failed where no write has
+  pub none_failed : media.tells → failed ≡ false → files.failed ≡ []
 
--- Takes were made whole, unless a write had failed: then nothing was done.
-pub record FinishesTakes {V : Type 0} (media : MediaOutside V) (run : Recorded) (journal : List Entry) (was : Bool) (old : V) (now : Bool) (new : V) : Type 0 where
-  pub stays : was ≡ true → (now ≡ true) × (new ≡ old)
+-- Takes were made whole, but those that had failed.
+pub record FinishesTakes {V : Type 0} (media : MediaOutside V) (run : Recorded) (journal : List Entry) (files : Taking) (was : Bool) (old : V) (now : Bool) (new : V) : Type 0 where
+  -- a write that had failed has failed
+  pub stays : was ≡ true → now ≡ true
   -- where no write fails the files hold the takes of the journal, and else a front of each
   pub whole : media.tells → now ≡ false → AreTakes run journal (media.files new)
-  pub in_part : media.tells → was ≡ false → now ≡ true → AreTakesInPart run journal (media.files new)
+  pub in_part : media.tells → now ≡ true → AreTakesInPart run journal (media.files new)
+  -- each take is whole but those that had failed, and no more than writes failed since
+  pub others : media.tells → AreWholeBut run journal files (media.write_faults old) (media.write_faults new) (media.files new)
   -- the count of failed writes rose where one is answered, and no read failed
   pub later : media.write_faults old ≤ media.write_faults new
   pub kept : now ≡ false → media.write_faults new ≡ media.write_faults old
@@ -61,4 +66,4 @@ module _ {V I W : Type 0} where
     -- where nothing is to be recorded no file is written; else takes are made whole, and only a write may fail
     pub failed : new.failed ≡ record old.failed { write = new.failed.write }
     pub quiet : records ≡ false → (new.media ≡ old.ending.butler.media) × (new.failed.write ≡ old.failed.write)
-    pub finishes : records ≡ true → FinishesTakes media run (seen_entries old.stopped.journal.items) old.failed.write old.ending.butler.media new.failed.write new.media
+    pub finishes : records ≡ true → FinishesTakes media run (seen_entries old.stopped.journal.items) old.ending.butler.drain.files old.failed.write old.ending.butler.media new.failed.write new.media

@@ -24,7 +24,7 @@ pub(crate) fn drain<M: Media, I, W>(ending: Ending<M>, failed: Failed) -> (Endin
     ensures last { TakesLastTurns M.outside on result.0 result.1 }
     ensures alone { LeavesAlone ending failed result.0 result.1 }
     ensures entered { result.0.butler.entered ≡ length result.0.edition.edits }
-    ensures received { result.1.write ≡ false → AllReceived result.0 }
+    ensures received { AllReceived result.0 }
     ensures as_machine { DrainsAsMachine on.begun.session ending result.1 result.0 }
 {
     let mut ending = ending;

@@ -34,7 +34,7 @@ pub struct Ended<M, I, W> {
     pub failed: Failed,
 }
 
-// Makes the takes whole, unless a write has failed. Answers whether one has by then.
+// Makes the takes whole, but those that have failed. Answers whether a write has failed by then.
 fn finish_takes<M: Media>(media: &mut M, files: TakeFiles, journal: &Journal, failed: bool) -> bool
     ghost run: { Recorded }
     requires of { IsTakingOf run.session files }
@@ -42,16 +42,17 @@ fn finish_takes<M: Media>(media: &mut M, files: TakeFiles, journal: &Journal, fa
     requires counted { IsCounted run.session (seen_entries journal.now.items) }
     requires flushed { HasFlushed M.outside run (seen_entries journal.now.items) failed files
         media.old }
-    ensures { FinishesTakes M.outside run (seen_entries journal.now.items) failed media.old
+    ensures { FinishesTakes M.outside run (seen_entries journal.now.items) files failed media.old
         result media.new }
 {
-    if failed {
-        return true;
-    }
     // it has no more entries than it has room for
     let _made = journal.entries();
     let mut files = files;
-    files.finish(media, journal).is_err()
+    let fails = files.finish(media, journal).is_err();
+    if failed {
+        return true;
+    }
+    fails
 }
 
 /// Makes the takes whole where tracks were recorded, joins the rings again, and gives everything back.

@@ -17,6 +17,7 @@ mod NewLemmas
 mod ClosedLemmas
 mod PlayingLemmas
 mod MeetingLemmas
+mod TellingLemmas
 mod EntryLemmas
 mod MadeLemmas
 mod NextLemmas

@@ -168,14 +168,14 @@ mastered_after_a_meeting outside at cycles entries sink ours ours_now theirs the
     (sym (same_items ours.plays.items ours_now.plays.items met.plays.receivers (λ t r within. told_at theirs.sends.items ours.plays.items theirs_now.sends.items ours_now.plays.items met.plays count t r within))) (was tells)
 
 -- so all of it is as a contract says it, of a process that is seen as this one
-pub meets_others : {I W : Type 0} (inputs : SourceOutside I) (sinks : SinkOutside W) (at : Playing) (p old : ProcessState I W) (theirs theirs_now : ButlerEnds) (ends : ProcessEnds) → p ≡ old → AreOtherEnds old.ends theirs →
-    EndsMeet p.ends theirs ends theirs_now → MeetsOthers inputs sinks at old theirs (record p { ends = ends }) theirs_now
-meets_others {I} {W} inputs sinks at p old theirs theirs_now ends is others met = subst (λ q. MeetsOthers inputs sinks at q theirs (record p { ends = ends }) theirs_now) is (record {
+pub meets_others : {I W : Type 0} (inputs : SourceOutside I) (sinks : SinkOutside W) (p old : ProcessState I W) (theirs theirs_now : ButlerEnds) (ends : ProcessEnds) → p ≡ old → AreOtherEnds old.ends theirs →
+    EndsMeet p.ends theirs ends theirs_now → MeetsOthers inputs sinks old theirs (record p { ends = ends }) theirs_now
+meets_others {I} {W} inputs sinks p old theirs theirs_now ends is others met = subst (λ q. MeetsOthers inputs sinks q theirs (record p { ends = ends }) theirs_now) is (record {
   same = refl;
   ends = met;
-  playing = plays_after_a_meeting at p ends theirs theirs_now met other inputs;
-  looked = looked_after_a_meeting at p ends theirs theirs_now met other;
-  master = mastered_after_a_meeting sinks at p.journal.room (reverse (seen_entries p.journal.items)) p.master.sink p.ends ends theirs theirs_now met other.plays.count;
+  playing = λ at. plays_after_a_meeting at p ends theirs theirs_now met other inputs;
+  looked = λ at. looked_after_a_meeting at p ends theirs theirs_now met other;
+  master = λ at. mastered_after_a_meeting sinks at p.journal.room (reverse (seen_entries p.journal.items)) p.master.sink p.ends ends theirs theirs_now met other.plays.count;
 }) where
   other : AreOtherEnds p.ends theirs
   other = subst (λ (q : ProcessState I W). AreOtherEnds q.ends theirs) (sym is) others

@@ -34,7 +34,7 @@ use Rattle.engine_core.specs.Lines.{GoesByItsLines}
 use Rattle.engine_core.specs.Mastered as engine
 use Rattle.engine_core.specs.Mastered.{GetsAFront, GetsTheMaster, InputFell, IsCutOff, MakesItsCycles}
 use Rattle.engine_core.specs.Passed.{AllGenuine}
-use Rattle.engine_core.specs.Takes.{LeavesTakes}
+use Rattle.engine_core.specs.Takes.{AreCut, LeavesTakes}
 use Rattle.engine_core.specs.UnderWay.{IsInputOf}
 use Rattle.run_letters.specs.declared.event.Event.{Event}
 use Rattle.session_play.specs.declared.outcome.Outcome.{Outcome}
@@ -42,7 +42,7 @@ use Rattle.session_play.specs.Counted.{AreCounted}
 use Rattle.session_play.specs.Loading.{IsHeard, IsLoadedFor}
 use Rattle.session_play.specs.Played.{HandsOn, IsPlayed}
 use Rattle.session_play.specs.Ready.{loaded_of}
-use Rattle.session_play.specs.Recorded.{GetsItsMaster, LeavesItsRings, LeavesItsTakes, ReadsItsInput}
+use Rattle.session_play.specs.Recorded.{GetsItsMaster, LeavesItsRings, LeavesItsTakes, ReadsItsInput, recorded_by}
 use Rattle.session_play.specs.Reported.{IsStill, Reports, TellsOut, head_of, reported_with, said, told}
 use Rattle.session_play.specs.Request.{Request}
 use Rattle.session_opening.specs.Sounds.{bytes_of_block, input_left, sounds_in}
@@ -209,6 +209,9 @@ module _ {M I C W O : Type 0} (media : MediaOutside M) (inputs : SourceOutside I
       captured = leaves.takes.captured;
       whole = λ rec t fine. subst (λ (fs : Files). AreTakes (record { session = s; input = input; held = fs }) journal now) files.files (leaves.takes.whole (sym (record_script o.script) ∙ rec) t fine);
       in_part = λ rec t failed. subst (λ (fs : Files). AreTakesInPart (record { session = s; input = input; held = fs }) journal now) files.files (leaves.takes.in_part (sym (record_script o.script) ∙ rec) t failed);
+      others = λ rec t. subst (λ n. AreCut (recorded_by media before s input) journal n (media.write_faults f.world.media) now) files.other_count
+          (subst (λ (fs : Files). AreCut (record { session = s; input = input; held = fs }) journal (media.write_faults o.world.media) (media.write_faults f.world.media) now) files.files
+          (leaves.takes.others (sym (record_script o.script) ∙ rec) t));
       same = λ rec. leaves.takes.same (sym (record_script o.script) ∙ rec) ∙ files.files;
       unwritten = λ rec. leaves.takes.unwritten (sym (record_script o.script) ∙ rec);
     }

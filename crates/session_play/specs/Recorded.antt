@@ -8,6 +8,7 @@ use Rattle.engine_model.specs.Played.{master_file}
 use Rattle.engine_model.specs.Takes.{Input}
 use Rattle.capture_flush.specs.Blocks.{block_of, taken_blocks}
 use Rattle.capture_flush.specs.Finished.{Recorded, AreTakes, AreTakesInPart}
+use Rattle.engine_core.specs.Takes.{AreCut}
 use Rattle.run_rings.specs.declared.joining.TrackRings.{TrackRings}
 use Rattle.run_world.specs.declared.finished.Finished.{Finished}
 use Rattle.engine_core.specs.Finished.{failed_of, journal_of}
@@ -54,6 +55,9 @@ module _ {M I C W O : Type 0} where
     -- of a play the media holds what it held, and exactly the takes that the journal names; once a write has failed, a front of each
     pub whole : records r ≡ true → media.tells → f.faults.write ≡ false → AreTakes (recorded_by media old s input) (journal_of f) (media.files f.world.media)
     pub in_part : records r ≡ true → media.tells → f.faults.write ≡ true → AreTakesInPart (recorded_by media old s input) (journal_of f) (media.files f.world.media)
+    -- of no more takes than writes failed, while all others are whole
+    pub others : records r ≡ true → media.tells →
+        AreCut (recorded_by media old s input) (journal_of f) (media.write_faults old.media) (media.write_faults f.world.media) (media.files f.world.media)
     -- an export changes no file, and writes none
     pub same : records r ≡ false → media.files f.world.media ≡ media.files old.media
     pub unwritten : records r ≡ false → f.faults.write ≡ false

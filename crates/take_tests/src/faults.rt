@@ -1,7 +1,7 @@
 //! Calls of the media that fail while the take of a lost block is written, one in each run.
 use crate::bench::{Ended, TakeBench, row_holds};
 use crate::media::QuietMedia;
-use crate::takes::{ONE_IS_CUT, Row, THIRD_IS_LOST};
+use crate::takes::{ONE_HAS_FAILED, ONE_IS_CUT, Row, THIRD_IS_LOST};
 use ses_io::MemMedia;
 use std::alloc::Global;
 
@@ -97,6 +97,30 @@ fn has_files(media: &QuietMedia, row: &Row) -> bool {
 fn takes_behind_one_that_meets_a_fault_are_whole(rt: HostRuntime) {
     let right = match failed_from(rt.alloc(), &ONE_IS_CUT, 52) {
         Some((bench, ended)) => ended == Ended::AtFinish && has_files(bench.media(), &ONE_IS_CUT),
+        None => false,
+    };
+    row_holds(&rt, 0, right);
+}
+
+// How many blocks of a run over such a media met a fault, where it goes on, and how it ended.
+fn gone_through(
+    alloc: Global,
+    row: &Row,
+    from: u64,
+) -> Option<(TakeBench<QuietMedia>, usize, Ended)> {
+    let mut files = MemMedia::new(alloc);
+    files.fail_writes(NAME, from).ok()?;
+    let mut bench = TakeBench::new(alloc, row.run.session, QuietMedia::new(files, usize::MAX))?;
+    let (met, ended) = bench.go_through(alloc, &row.run)?;
+    Some((bench, met, ended))
+}
+
+#[test]
+fn a_take_that_has_failed_is_left_and_all_others_are_whole(rt: HostRuntime) {
+    let right = match gone_through(rt.alloc(), &ONE_HAS_FAILED, 52) {
+        Some((bench, met, ended)) => {
+            met == 1 && ended == Ended::Whole && has_files(bench.media(), &ONE_HAS_FAILED)
+        }
         None => false,
     };
     row_holds(&rt, 0, right);

@@ -4,7 +4,7 @@ mod rows;
 use crate::bench::{Ended, TakeBench, row_holds};
 use crate::media::QuietMedia;
 use rows::ROWS;
-pub(crate) use rows::{ONE_IS_CUT, Row, THIRD_IS_LOST};
+pub(crate) use rows::{ONE_HAS_FAILED, ONE_IS_CUT, Row, THIRD_IS_LOST};
 use ses_io::MemMedia;
 use std::alloc::Global;
 

@@ -56,4 +56,4 @@ module _ {V : Type 0} (media : MediaOutside V) (at : At) (e : Ending V) (t : Tur
 
   -- the turn makes one move
   pub made : MakesMove at.begun.session e.edition e.butler t b (moving.first_move at.begun.session e.edition e.butler b)
-  made = a_turn_of_one_is_one_move at.begun.session e.edition e.butler t b turn.receives turn.sends turn.answers (λ failed. (turn.fails.no_more_flushed failed).0) turn.fails.no_more_sent alone
+  made = a_turn_of_one_is_one_move at.begun.session e.edition e.butler t b turn.receives turn.sends turn.answers turn.fails.no_more_sent alone

@@ -100,7 +100,6 @@ module _ {V : Type 0} (media : MediaOutside V) (at : At) (e : Ending V) (t : Tur
       many_takes = tied.many ∙ sym serves.serving.takes;
       each = track;
       none_read = tied.none_read;
-      none_written = tied.none_written;
     }
 
     -- the move is the core machine's

@@ -15,9 +15,10 @@ use Rattle.piece_item.specs.declared.item.Item.{Item}
 use Rattle.piece_item.specs.declared.take_block.TakeBlock.{TakeBlock}
 use Rattle.piece_item.specs.declared.butler_ends.ButlerEnds.{ButlerEnds}
 use Rattle.piece_item.specs.Views.{ack_of}
+use Rattle.ring_meeting.specs.Told.{AreTold}
 use Rattle.read_ahead.specs.Items.{kinds}
 use Rattle.butler.specs.ButlerState.{ButlerState, Rested, rested, resumed}
-use Rattle.butler.specs.Laws.{AreTold, IsKeptBy}
+use Rattle.butler.specs.Laws.{IsKeptBy}
 use Rattle.butler.specs.Serving.{IsServing, IsTrueTo}
 use Rattle.butler.proofs.MeetingLemmas.{meeting_keeps}
 use Rattle.process_cycle.specs.declared.ends.ProcessEnds.{ProcessEnds}
@@ -157,8 +158,9 @@ module _ {V : Type 0} where
     unwritten = was.unwritten;
     may_record = was.may_record;
     takes = λ records tells. let held = was.takes records tells in record {
-      whole = λ fine. kept.takes (run_of at.begun) (media.files e.butler.media) (held.whole fine);
-      in_part = λ failed. kept.in_part (run_of at.begun) (media.files e.butler.media) (held.in_part failed);
+      flushed = kept.takes (run_of at.begun) (media.files e.butler.media) held.flushed;
+      none_failed = held.none_failed;
+      many = held.many;
     };
   }
 

@@ -123,9 +123,10 @@ module _ {V I W : Type 0} (s : Session) (start : Start V I W) (may : MayBegin s 
       unwritten = λ quiet. have.given.no_write_failed;
       may_record = λ on tells. subst (MayRecord s (media.files start.media)) (sym (ap (λ l. l.opened) have.given.sources_is)) (may_record on tells);
       takes = λ on tells. record {
-        whole = λ fine. subst (λ m. IsFlushed (tape_of (run_of begun) b.ends.takes.items) b.drain.files (media.files m)) (sym have.given.media_is)
+        flushed = subst (λ m. IsFlushed (tape_of (run_of begun) b.ends.takes.items) b.drain.files (media.files m)) (sym have.given.media_is)
             (have.no_take (media.files start.media) (may_record on tells).fresh);
-        in_part = λ failed. absurd (false≢true (sym have.given.no_write_failed ∙ failed));
+        none_failed = λ fine. have.given.no_take_failed;
+        many = omega (arith, ap length have.given.no_take_failed, ap media.write_faults have.given.media_is);
       };
     }
 

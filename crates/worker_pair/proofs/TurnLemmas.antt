@@ -1,6 +1,6 @@
 -- What a turn of the butler, of one item, and a meeting after it do, where all ends had met.
-use Rattle.std.proofs.Common.{◌≡◌, ◌<◌, List, [], length, refl, sym, ap, subst, ◌∙◌, arith, append-nil}
-use Rattle.std.specs.Prelude.{Bool, true, false, if◌then◌else◌, Result, Ok, Err}
+use Rattle.std.proofs.Common.{◌≡◌, ◌+◌, ◌-◌, ◌^◌, ◌<◌, ◌≤◌, List, [], ◌∷◌, length, length-append, refl, sym, ap, subst, ◌∙◌, arith, append-nil}
+use Rattle.std.specs.Prelude.{Bool, min, true, false, if◌then◌else◌, Result, Ok, Err}
 use Rattle.std.proofs.lemmas.Bool.{true≢false}
 use Rattle.std.proofs.lemmas.Option.{get_or_from_slice_get}
 use Rattle.ses_io.specs.Files.{content}
@@ -11,14 +11,13 @@ use Rattle.disk_ring.specs.Receiver.{Receiver}
 use Rattle.piece_item.specs.declared.item.Item.{Item}
 use Rattle.piece_item.specs.declared.take_block.TakeBlock.{TakeBlock}
 use Rattle.piece_item.specs.declared.butler_ends.ButlerEnds.{ButlerEnds}
-use Rattle.capture_flush.specs.Flushed.{IsFlushed, IsFlushedInPart}
 use Rattle.capture_drain.specs.Drains.{total_received}
-use Rattle.capture_drain.specs.Files.{tape_of}
+use Rattle.capture_drain.specs.Files.{NotesFault}
 use Rattle.butler.specs.declared.turning.Turn.{Turn}
 use Rattle.butler.specs.declared.faults.ButlerFault.{ButlerFault}
 use Rattle.butler.specs.declared.faults.ButlerFault.TheVariants.{ReadFault, WriteFault}
 use Rattle.butler.specs.ButlerState.{ButlerState, Rested, rested}
-use Rattle.butler.specs.Faults.{Fails, KeepsRest, is_write_fault}
+use Rattle.butler.specs.Faults.{Counts, Fails, KeepsRest, is_write_fault}
 use Rattle.butler.specs.Serving.{AreStocked, IsServing, SourcesStand}
 use Rattle.butler.specs.Turns.{Receives, TakesAreKept, AllSend, StaysTrue, Answers}
 use Rattle.butler.proofs.SourceLemmas.{sources_are_no_takes}
@@ -28,7 +27,7 @@ use Rattle.worker_pair.specs.declared.ending.Ending.{Ending}
 use Rattle.worker_pair.specs.Begun.{At, turned, served_at}
 use Rattle.worker_pair.specs.Runs.{Serves}
 use Rattle.worker_pair.specs.Steps.{IsTurned}
-use Rattle.worker_pair.specs.Takes.{FilesStand, HoldsTakes, MayRecord, run_of}
+use Rattle.worker_pair.specs.Takes.{FilesStand, HoldsTakes, MayRecord}
 use Rattle.worker_pair.proofs.AgainLemmas.{all_in, all_out, still_out}
 use Rattle.worker_pair.proofs.MetLemmas.{have_met, others_met, flush_met, no_take_met, with_ends, ServesApart, kept_met, serves_met}
 use Rattle.worker_pair.proofs.TotalLemmas.{none_received, nothing_in_all, same_in_all}
@@ -36,7 +35,7 @@ use Rattle.worker_pair.proofs.TotalLemmas.{none_received, nothing_in_all, same_i
 module _ {V : Type 0} (media : MediaOutside V) where
   -- as the butler's contract says it, clause by clause
   pub is_turned : (at : At) (e : Ending V) (answer : Result Turn ButlerFault) (b : ButlerState V) → IsServing at.begun.session e.edition.edits b → Receives e.butler b →
-      (media.tells → TakesAreKept (served_at at) (media.files e.butler.media) (media.files b.media) e.butler answer b) → AllSend at.begun.session e.edition e.butler b →
+      (media.tells → TakesAreKept (served_at at) (media.files e.butler.media) (media.files b.media) e.butler b) → AllSend at.begun.session e.edition e.butler b →
       (media.tells → StaysTrue media (served_at at) e.edition e.butler b) → Answers at.begun.session e.edition 1 e.butler answer b →
       Fails media e.butler answer b → KeepsRest media at.begun.session e.edition e.butler b → IsTurned media at e answer b
   is_turned at e answer b serving receives takes sends stays_true answers fails rest = record {
@@ -94,29 +93,20 @@ module _ {V : Type 0} (media : MediaOutside V) where
       acks = still_out e.ends.to_butler e.butler.ends.acks b.ends.acks met.acks turn.receives.acks.goes_on;
     }
 
-    -- after a failed write nothing more is written
-    still_in_part : e.butler.write_failed ≡ true → IsFlushedInPart (tape_of (run_of at.begun) e.butler.ends.takes.items) (media.files e.butler.media) →
-        IsFlushedInPart (tape_of (run_of at.begun) b.ends.takes.items) (media.files b.media)
-    still_in_part failed was = let same = (turn.fails.no_more_flushed failed).0 in
-        subst (λ files. IsFlushedInPart (tape_of (run_of at.begun) b.ends.takes.items) files) (sym (turn.rest.same (ap (λ l. total_received l.items) same)).files)
-        (subst (λ l. IsFlushedInPart (tape_of (run_of at.begun) l.items) (media.files e.butler.media)) (sym same) was)
+    -- where no write has failed no take has
+    none_failed : (given : Result Turn ButlerFault) → NotesFault (is_write_fault given) e.butler.drain.files b.drain.files → HoldsTakes media at.begun e.butler →
+        (if is_write_fault given then true else e.butler.write_failed) ≡ false → b.drain.files.failed ≡ []
+    none_failed (Ok t) noted held fine = noted ∙ held.none_failed fine
+    none_failed (Err ReadFault) noted held fine = noted ∙ held.none_failed fine
+    none_failed (Err WriteFault) noted held fine = absurd (true≢false fine)
 
-    -- what a turn writes, by what it answers
-    whole_at : (given : Result Turn ButlerFault) → TakesAreKept (served_at at) (media.files e.butler.media) (media.files b.media) e.butler given b → HoldsTakes media at.begun e.butler →
-        (if is_write_fault given then true else e.butler.write_failed) ≡ false → IsFlushed (tape_of (run_of at.begun) b.ends.takes.items) b.drain.files (media.files b.media)
-    whole_at (Ok t) kept held fine = kept (held.whole fine)
-    whole_at (Err ReadFault) kept held fine = kept (held.whole fine)
-    whole_at (Err WriteFault) kept held fine = absurd (true≢false fine)
-
-    part_at : (given : Result Turn ButlerFault) → TakesAreKept (served_at at) (media.files e.butler.media) (media.files b.media) e.butler given b → HoldsTakes media at.begun e.butler →
-        (if is_write_fault given then true else e.butler.write_failed) ≡ true → IsFlushedInPart (tape_of (run_of at.begun) b.ends.takes.items) (media.files b.media)
-    part_at (Ok t) kept held failed = still_in_part failed (held.in_part failed)
-    part_at (Err ReadFault) kept held failed = still_in_part failed (held.in_part failed)
-    part_at (Err WriteFault) kept held failed = by e.butler.write_failed refl
-      where
-        by : (before : Bool) → e.butler.write_failed ≡ before → IsFlushedInPart (tape_of (run_of at.begun) b.ends.takes.items) (media.files b.media)
-        by true was = still_in_part was (held.in_part was)
-        by false was = (kept (held.whole was)).in_part
+    -- and no more have than writes did
+    no_more : (given : Result Turn ButlerFault) → NotesFault (is_write_fault given) e.butler.drain.files b.drain.files → Counts (is_write_fault given) (media.write_faults e.butler.media) (media.write_faults b.media) →
+        min (at.begun.write_faults + length e.butler.drain.files.failed) (2 ^ 64 - 1) ≤ media.write_faults e.butler.media →
+        min (at.begun.write_faults + length b.drain.files.failed) (2 ^ 64 - 1) ≤ media.write_faults b.media
+    no_more (Ok t) noted counts many = omega (arith, ap length noted, counts, many)
+    no_more (Err ReadFault) noted counts many = omega (arith, ap length noted, counts, many)
+    no_more (Err WriteFault) noted counts many = omega (arith, ap length noted.1, length-append e.butler.drain.files.failed (noted.0 ∷ []), counts.rose, many)
 
     -- ---- and a meeting
 
@@ -150,8 +140,9 @@ module _ {V : Type 0} (media : MediaOutside V) where
         unwritten = λ quiet. turn.fails.write_failed ∙ ap (λ w. if w then true else e.butler.write_failed) (no_write_at quiet answer turn.answers) ∙ serves.files.unwritten quiet;
         may_record = λ records tells. subst (MayRecord at.begun.session at.begun.files) (sym turn.rest.sources) (serves.files.may_record records tells);
         takes = λ records tells. let held = serves.files.takes records tells in record {
-          whole = λ fine. whole_at answer (turn.takes tells) held (sym turn.fails.write_failed ∙ fine);
-          in_part = λ failed. part_at answer (turn.takes tells) held (sym turn.fails.write_failed ∙ failed);
+          flushed = turn.takes tells held.flushed;
+          none_failed = λ fine. none_failed answer turn.fails.noted held (sym turn.fails.write_failed ∙ fine);
+          many = no_more answer turn.fails.noted turn.fails.writes held.many;
         };
       }
 

@@ -12,8 +12,9 @@ pub record Begun : Type 0 where
   pub session : Session
   -- whether tracks may be recorded: in a play they may, in an export never
   pub records : Bool
-  -- the files, as the media held them
+  -- the files, as the media held them, and how many writes of it had failed
   pub files : Files
+  pub write_faults : ℕ
   -- the bytes that the input had left, and those that the master held
   pub start : List ℕ
   pub before : List ℕ
@@ -29,7 +30,7 @@ pub record At : Type 0 where
 
 -- by what media, input and master tell
 abbrev pub begun_with : {V I W : Type 0} → MediaOutside V → SourceOutside I → SinkOutside W → Session → Bool → V → I → W → Begun
-begun_with media inputs sinks s records v i w = record { session = s; records = records; files = media.files v; start = inputs.left i; before = sinks.held w }
+begun_with media inputs sinks s records v i w = record { session = s; records = records; files = media.files v; write_faults = media.write_faults v; start = inputs.left i; before = sinks.held w }
 
 -- nothing was entered or written yet
 abbrev pub at_first : Begun → At

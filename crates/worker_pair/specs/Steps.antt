@@ -38,7 +38,7 @@ is_idle_answer (Err fault) = false
 pub record IsTurned {V : Type 0} (media : MediaOutside V) (at : At) (e : Ending V) (answer : Result Turn ButlerFault) (b : ButlerState V) : Type 0 where
   pub serving : IsServing at.begun.session e.edition.edits b
   pub receives : Receives e.butler b
-  pub takes : media.tells → TakesAreKept (served_at at) (media.files e.butler.media) (media.files b.media) e.butler answer b
+  pub takes : media.tells → TakesAreKept (served_at at) (media.files e.butler.media) (media.files b.media) e.butler b
   pub sends : AllSend at.begun.session e.edition e.butler b
   pub stays_true : media.tells → StaysTrue media (served_at at) e.edition e.butler b
   pub answers : Answers at.begun.session e.edition 1 e.butler answer b

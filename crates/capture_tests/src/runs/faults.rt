@@ -22,7 +22,7 @@ at = 4
 ";
 
 pub(crate) const RUNS: &[Run] = &[
-    // after a write that fails nothing is flushed, and what is due is sent until nothing more is acknowledged
+    // a write of a take fails: what else comes of it is left out, the next take is written, and what is due is sent
     Run {
         session: &[TWO, DEPTH_2, TRACK_T],
         files: &[],
@@ -35,12 +35,12 @@ pub(crate) const RUNS: &[Run] = &[
             Step::Fault(ButlerFault::WriteFault),
             Step::Block(0, (1, 2), &[1280, 1536]),
             Step::Full(0, (1, 3), &[1792, 2048]),
-            Step::Turn(100, Turn::Moved(2)),
-            Step::Full(0, (1, 3), &[1792, 2048]),
+            Step::Turn(100, Turn::Moved(4)),
+            Step::Block(0, (1, 3), &[1792, 2048]),
+            Step::Block(0, (2, 0), &[256, 512]),
             Step::Mark(0, 0, 0, 0),
             Step::Piece(0, 0, 0, &[0, 0]),
-            Step::Turn(100, Turn::Moved(1)),
-            Step::Full(0, (1, 3), &[1792, 2048]),
+            Step::Turn(100, Turn::Moved(3)),
             Step::Close(0),
             Step::Turn(100, Turn::Idle),
             Step::Over(false),
@@ -48,10 +48,16 @@ pub(crate) const RUNS: &[Run] = &[
             Step::Turn(100, Turn::Idle),
             Step::Over(true),
         ],
-        left: &[Left {
-            name: "take-t-1.wav",
-            parts: Some(&[NONE]),
-        }],
+        left: &[
+            Left {
+                name: "take-t-1.wav",
+                parts: Some(&[NONE]),
+            },
+            Left {
+                name: "take-t-2.wav",
+                parts: Some(&[ONE, b"\x01\0\x02\0"]),
+            },
+        ],
     },
     // after a read that fails nothing is sent, and what is recorded is flushed
     Run {

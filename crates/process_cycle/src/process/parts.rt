@@ -1,14 +1,13 @@
 //! How a process meets the butler on one thread, and what it leaves when it is taken apart.
 ghost use Rattle.std.specs.Prelude.{◌≡◌};
-ghost use Rattle.process_cycle.specs.Ends.{MayMeet, MayMeetPlays, shut_ends};
-ghost use Rattle.process_cycle.specs.Meetings.{MeetsOthers};
-ghost use Rattle.process_cycle.specs.ProcessState.{Playing};
+ghost use Rattle.process_cycle.specs.Ends.{shut_ends};
 
 use crate::ends::ProcessEnds;
 use crate::meeting::{close_all, meet_ends, meet_plays};
 use crate::process::Process;
 use cycle_journal::Journal;
 use piece_item::ButlerEnds;
+use ring_meeting::OtherEnds;
 use ses_io::{Sink, Source};
 
 /// What a process leaves.
@@ -21,26 +20,26 @@ pub struct ProcessParts<I, W> {
     pub ends: ProcessEnds,
 }
 
+impl<I: Source, W: Sink> OtherEnds for Process<I, W> {
+    ghost use Rattle.process_cycle.specs.Ends.{MayMeet, MayMeetPlays};
+    ghost use Rattle.process_cycle.specs.Meetings.{MeetsOthers};
+
+    ghost meeting = { record {
+      may = λ p theirs. MayMeet p.ends theirs;
+      may_plays = λ p theirs. MayMeetPlays p.ends theirs;
+      meets = MeetsOthers I.outside W.outside;
+    } };
+
+    fn meet(&mut self, ends: &mut ButlerEnds) {
+        meet_ends(&mut self.ends, ends);
+    }
+
+    fn meet_plays(&mut self, ends: &mut ButlerEnds) {
+        meet_plays(&mut self.ends, ends);
+    }
+}
+
 impl<I: Source, W: Sink> Process<I, W> {
-    /// Each end and the butler's end of the same ring tell each other what they know. Nothing else
-    /// changes.
-    pub fn meet(&mut self, other: &mut ButlerEnds)
-        ghost at: { Playing }
-        requires { MayMeet self.old.ends other.old }
-        ensures { MeetsOthers I.outside W.outside at self.old other.old self.new other.new }
-    {
-        meet_ends(&mut self.ends, other);
-    }
-
-    /// The same where only the ends of playback rings have something to tell: no other is asked.
-    pub fn meet_plays(&mut self, other: &mut ButlerEnds)
-        ghost at: { Playing }
-        requires { MayMeetPlays self.old.ends other.old }
-        ensures { MeetsOthers I.outside W.outside at self.old other.old self.new other.new }
-    {
-        meet_plays(&mut self.ends, other);
-    }
-
     /// Closes the rings of takes and of acknowledgements, and gives everything back.
     pub fn parts(self) -> ProcessParts<I, W>
         ensures input { result.input ≡ self.input.input }

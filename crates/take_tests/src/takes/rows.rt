@@ -104,6 +104,28 @@ pub(crate) const THIRD_IS_LOST: Row = Row {
     )],
 };
 
+// What two such runs leave: the first take of track `t` cut behind its first block, and the other takes whole.
+const ONE_CUT: &[(&str, Option<&[u8]>)] = &[
+    (
+        "take-t-1.wav",
+        Some(
+            b"RIFF\x2c\0\0\0WAVEfmt \x10\0\0\0\x01\0\x01\0\x80\xbb\0\0\0\x77\x01\0\x02\0\x10\0data\x08\0\0\0\x01\0\x02\0\x03\0\x04\0",
+        ),
+    ),
+    (
+        "take-t-2.wav",
+        Some(
+            b"RIFF\x2c\0\0\0WAVEfmt \x10\0\0\0\x01\0\x01\0\x80\xbb\0\0\0\x77\x01\0\x02\0\x10\0data\x08\0\0\0\x09\0\x0a\0\x0b\0\x0c\0",
+        ),
+    ),
+    (
+        "take-u-1.wav",
+        Some(
+            b"RIFF\x34\0\0\0WAVEfmt \x10\0\0\0\x01\0\x02\0\x80\xbb\0\0\0\xee\x02\0\x04\0\x10\0data\x10\0\0\0\x01\0\xff\xff\x02\0\xfe\xff\x03\0\xfd\xff\x04\0\xfc\xff",
+        ),
+    ),
+];
+
 /// The second block of a take is lost, and a write behind its first one fails: the takes behind it are whole all the same.
 pub(crate) const ONE_IS_CUT: Row = Row {
     run: Run {
@@ -116,26 +138,24 @@ pub(crate) const ONE_IS_CUT: Row = Row {
             &[NEXT, Take::Off],
         ],
     },
-    files: &[
-        (
-            "take-t-1.wav",
-            Some(
-                b"RIFF\x2c\0\0\0WAVEfmt \x10\0\0\0\x01\0\x01\0\x80\xbb\0\0\0\x77\x01\0\x02\0\x10\0data\x08\0\0\0\x01\0\x02\0\x03\0\x04\0",
-            ),
-        ),
-        (
-            "take-t-2.wav",
-            Some(
-                b"RIFF\x2c\0\0\0WAVEfmt \x10\0\0\0\x01\0\x01\0\x80\xbb\0\0\0\x77\x01\0\x02\0\x10\0data\x08\0\0\0\x09\0\x0a\0\x0b\0\x0c\0",
-            ),
-        ),
-        (
-            "take-u-1.wav",
-            Some(
-                b"RIFF\x34\0\0\0WAVEfmt \x10\0\0\0\x01\0\x02\0\x80\xbb\0\0\0\xee\x02\0\x04\0\x10\0data\x10\0\0\0\x01\0\xff\xff\x02\0\xfe\xff\x03\0\xfd\xff\x04\0\xfc\xff",
-            ),
-        ),
-    ],
+    files: ONE_CUT,
+};
+
+/// A write of the second block of a take fails, and a third one comes: the take stays as it was, and all others are whole, the next
+/// one of the track too. These are the files of the run before.
+pub(crate) const ONE_HAS_FAILED: Row = Row {
+    run: Run {
+        session: PAIR,
+        blocks: &[ONE, PAIRED, FIVE, NINE, NINE_ANEW],
+        entries: &[
+            &[FIRST, FIRST],
+            &[SECOND, Take::Off],
+            &[THIRD, Take::Off],
+            &[Take::Off, Take::Off],
+            &[NEXT, Take::Off],
+        ],
+    },
+    files: ONE_CUT,
 };
 
 pub(crate) const ROWS: &[Row] = &[

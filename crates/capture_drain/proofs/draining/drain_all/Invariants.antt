@@ -16,6 +16,7 @@ invariant-loop-track g l = record {
   so_far : SoFar l.track l.most l.taken l.initial.rings l.rings;
   given : g.M.Media.outside.tells → IsFlushed (tape_of g.run l.initial.rings) l.initial.files (g.M.Media.outside.files l.initial.media) →
       IsFlushed (tape_of g.run l.rings) l.files (g.M.Media.outside.files l.media);
+  failed : l.files.failed ≡ l.initial.files.failed;
   fitted : AreFitted (record { files = l.files; tracks = l.tracks }) l.rings;
   taking : IsTakingOf g.run.session l.files;
   media : WritesTakes {T = ℕ} g.M.Media.outside g.run.session l.initial.rings l.rings l.initial.media l.media (Ok l.taken);

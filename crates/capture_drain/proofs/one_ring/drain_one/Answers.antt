@@ -1,32 +1,22 @@
-use Rattle.std.proofs.Common.{true, rules, ◌≡◌, ◌++◌, ◌∷◌, [], ap, sym, subst}
+use Rattle.std.proofs.Common.{true, refl, rules, ◌≡◌, ◌++◌, ◌∷◌, [], ap, sym, subst}
 use Rattle.disk_ring.specs.Receiver.{Receiver}
 use Rattle.piece_item.specs.declared.take_block.TakeBlock.{TakeBlock}
-use Rattle.capture_flush.specs.Blocks.{block_of}
-use Rattle.capture_flush.specs.Taking.{Taking, last_of}
-use Rattle.capture_flush.specs.Flushed.{Tape, IsFlushed, GivesInPart, IsFlushedInPart}
-use Rattle.capture_drain.specs.Files.{tape_of}
+use Rattle.capture_flush.specs.Taking.{Taking}
+use Rattle.capture_flush.specs.Flushed.{Tape, IsFlushed}
 use Rattle.capture_drain.proofs.TapeLemmas.{tape_same, tape_taken}
 use Rattle.capture_drain.proofs.RingLemmas.{drains_taken, received_since}
-use Rattle.capture_drain.proofs.MediaLemmas.{writes_block, writes_part, given_in_part}
+use Rattle.capture_drain.proofs.MediaLemmas.{noted, writes_block, writes_part}
 use Rattle.capture_drain.proofs.one_ring.drain_one.Goals as goal
 
 pub returns-in_err-answer-in-Ok-clause-given : goal.returns-in_err-answer-in-Ok-clause-given
 returns-in_err-answer-in-Ok-clause-given g c tells old = let x = c.deref.result.now in
     let more : c.take-2.new.self.received ≡ c.args.ring.now.received ++ x ∷ [] = received_since c.args.ring.now c.is_empty.new.self c.take-2.new.self (c.is_empty.ensures.more c.if-is_empty.false) c.in-Ok.block.value x c.in-Ok.ensures.answer.received c.deref.ensures in
-    let says = c.in_err-answer-in-Ok.ensures in
-    let P : Tape → Type 0 = λ tape. IsFlushedInPart tape (g.M.Media.outside.files c.block-answer.new.media) in
-    let taken = tape_taken g.at.run g.at.rings c.args.track c.args.ring.now c.take-2.new.self x c.requires.1.1.here more in
-    given_in_part g.at.run _ c.block-answer.new.self _ c.from_residual.result c.from_residual.ensures.0 (record {
-      track = c.args.track;
-      block = block_of x;
-      before = tape_of g.at.run g.at.rings;
-      middle = g.M.Media.outside.files c.args.media.now;
-      given = subst (λ (f : Taking). IsFlushed (tape_of g.at.run g.at.rings) f (g.M.Media.outside.files c.args.media.now)) (sym says.stays) old;
-      last = sym taken;
-      part = subst (λ (f : Taking). GivesInPart g.at.run.session c.args.track (last_of f c.args.track) (block_of x) (g.M.Media.outside.files c.args.media.now) (g.M.Media.outside.files c.block-answer.new.media))
-          (sym says.stays) (says.gives.part tells);
-      in_part = subst P taken (says.in_part tells old);
-    })
+    let P : Tape → Type 0 = λ tape. IsFlushed tape c.block-answer.new.self (g.M.Media.outside.files c.block-answer.new.media) in
+    subst P (tape_taken g.at.run g.at.rings c.args.track c.args.ring.now c.take-2.new.self x c.requires.1.1.here more) (c.in_err-answer-in-Ok.ensures.flushed tells old)
+
+pub returns-in_err-answer-in-Ok-clause-failed : goal.returns-in_err-answer-in-Ok-clause-failed
+returns-in_err-answer-in-Ok-clause-failed g c = noted c.from_residual.result c.args.files.now c.args.files.now c.block-answer.new.self c.from_residual.ensures.0 refl
+    (record { track = c.args.track; take = c.deref.result.now.take }, ap (λ (f : Taking). f.failed) c.in_err-answer-in-Ok.ensures.state)
 
 pub returns-in_err-answer-in-Ok-clause-media : goal.returns-in_err-answer-in-Ok-clause-media
 returns-in_err-answer-in-Ok-clause-media g c = let x = c.deref.result.now in

@@ -1,14 +1,14 @@
-use Rattle.std.proofs.Common.{◌∙◌, ◌+◌, refl, sym, subst, arith, set, List, Ok}
+use Rattle.std.proofs.Common.{◌∙◌, ◌+◌, refl, sym, subst, arith, List, Ok}
 use Rattle.std.proofs.lemmas.Option.{slice_get_within}
 use Rattle.disk_ring.specs.Receiver.{Receiver}
 use Rattle.disk_ring.proofs.GoesOn.{goes_on_out_refl, goes_on_out_trans}
 use Rattle.piece_item.specs.declared.take_block.TakeBlock.{TakeBlock}
 use Rattle.capture_flush.specs.Flushed.{IsFlushed}
 use Rattle.capture_flush.proofs.AddedLemmas.{set_here}
-use Rattle.capture_drain.specs.Files.{tape_of, IsCutAt}
+use Rattle.capture_drain.specs.Files.{tape_of}
 use Rattle.capture_drain.proofs.TapeLemmas.{set_same, set_twice}
 use Rattle.capture_drain.proofs.RingLemmas.{drains_then, has_taken}
-use Rattle.capture_drain.proofs.MediaLemmas.{writes_at_first, writes_more, writes_ok, writes_err, given_in_part}
+use Rattle.capture_drain.proofs.MediaLemmas.{writes_at_first, writes_more, writes_ok, noted, writes_err}
 use Rattle.capture_drain.proofs.one_ring.drain_ring.Goals as goal
 
 pub loop-taken-init : goal.loop-taken-init
@@ -18,6 +18,7 @@ loop-taken-init g c = let of = c.requires.1.1 in let P : List (Receiver TakeBloc
       tails = refl;
       counted = omega arith;
       given = λ tells old. subst P (sym (set_same g.at.rings c.args.track c.args.ring.now of.here)) old;
+      failed = refl;
       fits = of.fits;
       taking = c.requires.1.0;
       media = writes_at_first g.M.Media.outside g.at.run.session g.at.rings c.args.track c.args.ring.now c.args.media.now _ of.here;
@@ -32,9 +33,11 @@ returns-in_err-drain_one-clause-ring g c = let so = c.loop-taken.invariant in dr
 
 pub returns-in_err-drain_one-clause-given : goal.returns-in_err-drain_one-clause-given
 returns-in_err-drain_one-clause-given g c tells old = let so = c.loop-taken.invariant in
-    let P : List (Receiver TakeBlock) → Type 0 = λ rings. IsCutAt g.at.run rings c.drain_one.new.files (g.M.Media.outside.files c.drain_one.new.media) in
-    given_in_part g.at.run (set g.at.rings c.args.track c.drain_one.new.ring) c.drain_one.new.files (g.M.Media.outside.files c.drain_one.new.media) c.from_residual.result c.from_residual.ensures.0
-    (subst P (set_twice g.at.rings c.args.track c.loop-taken.ring c.drain_one.new.ring) (c.in_err-drain_one.ensures.given tells (so.given tells old)))
+    let P : List (Receiver TakeBlock) → Type 0 = λ rings. IsFlushed (tape_of g.at.run rings) c.drain_one.new.files (g.M.Media.outside.files c.drain_one.new.media) in
+    subst P (set_twice g.at.rings c.args.track c.loop-taken.ring c.drain_one.new.ring) (c.in_err-drain_one.ensures.given tells (so.given tells old))
+
+pub returns-in_err-drain_one-clause-failed : goal.returns-in_err-drain_one-clause-failed
+returns-in_err-drain_one-clause-failed g c = noted c.from_residual.result c.args.files.now c.loop-taken.files c.drain_one.new.files c.from_residual.ensures.0 c.loop-taken.invariant.failed c.in_err-drain_one.ensures.failed
 
 pub returns-in_err-drain_one-clause-media : goal.returns-in_err-drain_one-clause-media
 returns-in_err-drain_one-clause-media g c = let so = c.loop-taken.invariant in
@@ -60,6 +63,7 @@ loop-taken-preserved g c = let so = c.loop-taken.invariant in let says = c.in_ok
       tails = taken.1 ∙ so.tails;
       counted = omega arith;
       given = λ tells old. subst P (set_twice g.at.rings c.args.track c.loop-taken.ring c.drain_one.new.ring) (says.given tells (so.given tells old));
+      failed = says.failed ∙ so.failed;
       fits = says.fits;
       taking = says.of;
       media = writes_more g.M.Media.outside g.at.run.session g.at.rings c.args.track c.args.ring.now c.loop-taken.ring c.drain_one.new.ring _ _ _ c.loop-taken.taken (Ok (c.loop-taken.taken + 1))

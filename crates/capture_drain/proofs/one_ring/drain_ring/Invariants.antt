@@ -17,6 +17,7 @@ invariant-loop-taken g l = record {
   counted : length l.ring.received ≡ length l.initial.ring.received + l.taken;
   given : g.M.Media.outside.tells → IsFlushed (tape_of g.at.run g.at.rings) l.initial.files (g.M.Media.outside.files l.initial.media) →
       IsFlushed (tape_of g.at.run (set g.at.rings l.track l.ring)) l.files (g.M.Media.outside.files l.media);
+  failed : l.files.failed ≡ l.initial.files.failed;
   fits : Fits l.kept l.ring;
   taking : IsTakingOf g.at.run.session l.files;
   media : WritesTakes {T = ℕ} g.M.Media.outside g.at.run.session g.at.rings (set g.at.rings l.track l.ring) l.initial.media l.media (Ok l.taken);

@@ -40,9 +40,9 @@ returns-then-is_idle-clause-entered g c = let turn = c.turn-turned.ensures in
     c.after_turn-failed.ensures
 
 pub returns-then-is_idle-clause-received : goal.returns-then-is_idle-clause-received
-returns-then-is_idle-clause-received g c = λ fine. let M = g.M.Media.outside in let on = g.on in let old = c.draining.ending in let now = c.turn-turned.result.0 in let did = c.turn-turned.result.1 in
+returns-then-is_idle-clause-received g c = let M = g.M.Media.outside in let on = g.on in let old = c.draining.ending in let now = c.turn-turned.result.0 in let did = c.turn-turned.result.1 in
     let turn = c.turn-turned.ensures in let last = turns.last_on M on old c.draining.failed now did c.draining.invariant.last turn.serves turn.turns c.after_turn-failed.result c.after_turn-failed.ensures in
-    turns.received_last M (at_last on.begun old) old c.draining.invariant.last.serves now did (sym c.is_idle.ensures ∙ c.if-is_idle.true) turn.turns (at_last on.begun now) last.serves (last.butler_writes ∙ fine)
+    turns.received_last M (at_last on.begun old) old c.draining.invariant.last.serves now did (sym c.is_idle.ensures ∙ c.if-is_idle.true) turn.turns (at_last on.begun now) last.serves
 
 pub returns-then-is_idle-clause-as_machine : goal.returns-then-is_idle-clause-as_machine
 returns-then-is_idle-clause-as_machine g c = let on = g.on in let old = c.draining.ending in let inv = c.draining.invariant in

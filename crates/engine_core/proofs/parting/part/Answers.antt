@@ -27,8 +27,8 @@ returns g c = let old = c.args.closed in let e = old.ending in let joined = c.jo
     | else-records w ↦ (w.media-is ∙ c.parts-media.ensures.media, ap (λ (f : Failed). f.write) w.failed-is)
   ];
   finishes = λ recording. elim c.if-records.branch [
-    | then-records w ↦ finishes_so g.M.Media.outside g.run (seen_entries old.stopped.journal.items) old.failed c.if-records.failed w.finish_takes.result e.butler.media c.parts-media.result.media
-        w.finish_takes.new.media c.if-records.media w.failed-is c.parts-media.ensures.media w.media-is w.finish_takes.ensures
-    | else-records w ↦ not_recording g.M.Media.outside g.run (seen_entries old.stopped.journal.items) c.args.records old.failed.write c.if-records.failed.write e.butler.media c.if-records.media w.if-records.false recording
+    | then-records w ↦ finishes_so g.M.Media.outside g.run (seen_entries old.stopped.journal.items) c.parts-media.result.files e.butler.drain.files old.failed c.if-records.failed w.finish_takes.result e.butler.media c.parts-media.result.media
+        w.finish_takes.new.media c.if-records.media w.failed-is c.parts-media.ensures.media w.media-is c.parts-media.ensures.files w.finish_takes.ensures
+    | else-records w ↦ not_recording g.M.Media.outside g.run (seen_entries old.stopped.journal.items) e.butler.drain.files c.args.records old.failed.write c.if-records.failed.write e.butler.media c.if-records.media w.if-records.false recording
   ];
 }

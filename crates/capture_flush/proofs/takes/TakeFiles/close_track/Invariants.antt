@@ -3,7 +3,7 @@ use Rattle.std.proofs.Common.{◌≡◌, ◌≤◌, length, drop}
 use Rattle.std.specs.Prelude.{All}
 use Rattle.std.specs.Option.{option_map_or}
 use Rattle.cycle_journal.specs.JournalView.{seen_entries}
-use Rattle.capture_flush.specs.Closing.{runs_from, runs_of, HasHead}
+use Rattle.capture_flush.specs.Closing.{runs_from, runs_of, HasHeadUnless}
 use Rattle.capture_flush.proofs.EndsLemmas.{Walked}
 use Rattle.capture_flush.proofs.takes.TakeFiles.close_track.Given as goal
 
@@ -14,7 +14,7 @@ abbrev pub invariant-loop-i : goal.invariant-loop-i
 invariant-loop-i g l = record {
   within : l.i ≤ length l.entries;
   few : option_map_or (λ r. r.blocks) l.run 0 ≤ l.i;
-  walked : Walked g.M.Media.outside g.s l.track (runs_of l.track (seen_entries l.entries)) (runs_from l.run l.track (seen_entries (drop l.i l.entries))) l.fn.media l.media l.failed;
-  heads : g.M.Media.outside.tells → All (HasHead g.s l.track (g.M.Media.outside.files l.media)) (runs_from l.run l.track (seen_entries (drop l.i l.entries)));
+  walked : Walked g.M.Media.outside g.s l.fn.self l.track (runs_of l.track (seen_entries l.entries)) (runs_from l.run l.track (seen_entries (drop l.i l.entries))) l.fn.media l.media l.failed;
+  heads : g.M.Media.outside.tells → All (HasHeadUnless l.fn.self g.s l.track (g.M.Media.outside.files l.media)) (runs_from l.run l.track (seen_entries (drop l.i l.entries)));
   same : l.self ≡ l.fn.self;
 }

@@ -10,6 +10,6 @@ ghost-close_track g a = g.run.session
 abbrev pub invariant-loop-track : goal.invariant-loop-track
 invariant-loop-track g l = record {
   within : l.track ≤ length g.run.session.tracks.items;
-  ends : Ends g.M.Media.outside g.run.session (all_runs (seen_entries l.j.items) 0 l.track) l.fn.media l.media l.failed;
+  ends : Ends g.M.Media.outside g.run.session (all_runs l.fn.self (seen_entries l.j.items) 0 l.track) l.fn.media l.media l.failed;
   same : l.self ≡ l.fn.self;
 }

@@ -3,6 +3,3 @@ use Rattle.worker_pair.proofs.pair.Pair.cycle.Given as goal
 
 abbrev pub ghost-cycle : goal.ghost-cycle
 ghost-cycle g a = playing_at g.at
-
-abbrev pub ghost-meet : goal.ghost-meet
-ghost-meet g a = playing_at g.at

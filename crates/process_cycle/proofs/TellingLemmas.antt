@@ -7,7 +7,7 @@ use Rattle.disk_ring.specs.Receiver.{Receiver}
 use Rattle.piece_item.specs.declared.butler_ends.ButlerEnds.{ButlerEnds}
 use Rattle.process_cycle.specs.declared.ends.ProcessEnds.{ProcessEnds}
 use Rattle.process_cycle.specs.Ends.{AllMeet, AreOfOneRing, AreOtherEnds, EndsMeet, Meet}
-use Rattle.butler.specs.Laws.{AreTold}
+use Rattle.ring_meeting.specs.Told.{AreTold}
 
 -- what is at a place of one list has its like in one that is as long
 like_it : {X Y : Type 0} (xs : List X) (ys : List Y) (i : ℕ) (x : X) → length xs ≡ length ys → slice_get xs i ≡ Some x → (y : Y) × (slice_get ys i ≡ Some y)
