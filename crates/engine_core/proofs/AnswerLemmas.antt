@@ -19,7 +19,7 @@ use Rattle.control_desk.specs.GoesOn as desk
 use Rattle.control_desk.specs.GoesOn.{GoesOn, Passes}
 use Rattle.control_desk.specs.State.{ControlState}
 use Rattle.control_desk.specs.Standing.{read_failed, write_failed}
-use Rattle.engine_core.specs.Failed.{IsCounted}
+use Rattle.run_end.specs.Failures.{IsFaultCount}
 
 -- ---- acknowledgements are of entries
 
@@ -54,16 +54,16 @@ all_turned p (x ∷ xs) all = let both = and_parts (p x) (list_all p xs) all in
 -- ---- faults of control
 
 module _ {C O : Type 0} (source : SourceOutside C) (sink : SinkOutside O) where
-  counted_by : (before now : ℕ) (rose : Bool) → desk.IsCounted before now false rose → IsCounted before now rose
+  counted_by : (before now : ℕ) (rose : Bool) → desk.IsCounted before now false rose → IsFaultCount before now rose
   counted_by before now rose c = record { later = c.later; kept = c.kept; raised = λ e. c.raised refl e }
 
-  counted_still : (before now : ℕ) (rose : Bool) → now ≡ before → rose ≡ false → IsCounted before now rose
+  counted_still : (before now : ℕ) (rose : Bool) → now ≡ before → rose ≡ false → IsFaultCount before now rose
   counted_still before now rose same none = record { later = omega (arith, same); kept = λ e. same; raised = λ e. absurd (false≢true (sym none ∙ e)) }
 
   -- its source and out, as it began and ended
   pub record ControlIsCounted (old new : ControlState C O) : Type 0 where
-    pub reads : IsCounted (source.faults old.lines.source) (source.faults new.lines.source) (read_failed new.standing)
-    pub writes : IsCounted (sink.faults old.out) (sink.faults new.out) (write_failed new.standing)
+    pub reads : IsFaultCount (source.faults old.lines.source) (source.faults new.lines.source) (read_failed new.standing)
+    pub writes : IsFaultCount (sink.faults old.out) (sink.faults new.out) (write_failed new.standing)
 
   by_script : (old new : ControlState C O) (lines : List Line) (replies : List Reply) (s t : Option (List Line)) → read_failed old.standing ≡ false → write_failed old.standing ≡ false →
       Passes source sink old lines replies new s t → ControlIsCounted old new

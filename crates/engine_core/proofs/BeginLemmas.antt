@@ -30,22 +30,23 @@ use Rattle.serial_laws.proofs.GivenLemmas.{a_run_begins}
 use Rattle.serial_laws.proofs.PacedLemmas.{nothing_is_paced_at_first}
 use Rattle.run_world.specs.declared.opened.Opened.{Opened}
 use Rattle.run_world.specs.declared.opened.Script.{Script}
-use Rattle.worker_pair.specs.declared.beginning.Start.{Start}
 use Rattle.worker_pair.specs.declared.pair.Pair.{Pair}
 use Rattle.worker_pair.specs.Plays.{OnlyTheMaster}
 use Rattle.worker_pair.specs.Starts.{HaveBegun, IsBegunBy, MayBegin}
 use Rattle.worker_pair.specs.Tied.{IsTied}
 use Rattle.engine_core.specs.declared.run.Run.{Run}
-use Rattle.engine_core.specs.Started.{is_played_out}
+use Rattle.engine_core.specs.Now.{is_played_out}
 use Rattle.engine_core.specs.Fed.{PlayAsPlain}
 use Rattle.engine_core.specs.UnderWay.{IsFresh, IsUnderWay}
 use Rattle.engine_core.specs.Carrying.{IsQuietScript}
 use Rattle.engine_core.specs.Events.{given}
 use Rattle.engine_core.specs.Going.{IsGoing}
-use Rattle.engine_core.specs.declared.lists.Lists.{Lists}
-use Rattle.engine_core.specs.Lists.{HasRoom, no_lists}
+use Rattle.run_end.specs.declared.lists.RunLists.{RunLists}
+use Rattle.run_end.specs.Lists.{HaveRoomFor, no_lists}
 use Rattle.engine_core.proofs.FedBeginLemmas.{first_fed, first_heard}
-use Rattle.engine_core.specs.Beginning.{MayRun, control_of, opening_of, started_of, unlettered}
+use Rattle.run_end.specs.Beginning.{MayRun, started_of}
+use Rattle.run_end.specs.Lines.{control_of}
+use Rattle.engine_core.specs.Beginning.{opening_of, start_of, unlettered}
 
 ready_isnt_ended : (why : End) → Ready ≢ Ended why
 ready_isnt_ended why e = absurd cc
@@ -56,23 +57,11 @@ module _ {M I C W O : Type 0} (media : MediaOutside M) (inputs : SourceOutside I
   abbrev s : Session
   s = o.edition.session
 
-  -- what they are made of
-  abbrev pub start_of : Start M I W
-  start_of = record {
-    edition = o.edition;
-    sources = o.sources;
-    cycles = o.cycles;
-    form = o.form;
-    media = o.world.media;
-    input = o.world.input;
-    master = o.world.master;
-  }
-
   read_only : (script : Option Script) → is_none script ≡ true → script ≡ None
   read_only None e = refl
   read_only (Some script) e = absurd (false≢true e)
 
-  pub may_begin : MayRun media o → MayBegin s start_of
+  pub may_begin : MayRun media o → MayBegin s (start_of o)
   may_begin may = record {
     valid = may.valid;
     edition_of = may.edition_of;
@@ -85,11 +74,11 @@ module _ {M I C W O : Type 0} (media : MediaOutside M) (inputs : SourceOutside I
     form_found = may.form_found;
   }
 
-  pub begun_by : MayRun media o → IsBegunBy media inputs sinks (started_of media inputs sinks o).begun start_of
+  pub begun_by : MayRun media o → IsBegunBy media inputs sinks (started_of media inputs sinks o).begun (start_of o)
   begun_by may = record { told = refl; may_record = λ records tells. may.may_record (read_only o.script records) tells }
 
   -- workers that did nothing yet
-  pub fresh : (p : Pair M I W) → HaveBegun media inputs sinks (started_of media inputs sinks o).begun start_of p → IsFresh media inputs sinks (started_of media inputs sinks o) p
+  pub fresh : (p : Pair M I W) → HaveBegun media inputs sinks (started_of media inputs sinks o).begun (start_of o) p → IsFresh media inputs sinks (started_of media inputs sinks o) p
   fresh p b = record {
     runs = b.runs;
     none = ap (λ (j : Listed Entry). j.items) b.journal;
@@ -148,7 +137,7 @@ module _ {M I C W O : Type 0} (media : MediaOutside M) (inputs : SourceOutside I
   quiet (Some script) e = refl
   quiet None e = absurd (false≢true (sym e))
 
-  pub begins_going : (p : Pair M I W) → HaveBegun media inputs sinks (started_of media inputs sinks o).begun (start_of media inputs sinks o) p → (run : Run M I W) →
+  pub begins_going : (p : Pair M I W) → HaveBegun media inputs sinks (started_of media inputs sinks o).begun (start_of o) p → (run : Run M I W) →
       IsUnderWay media inputs sinks (started_of media inputs sinks o) run → OnlyTheMaster p run.pair →
       IsGoing media inputs source sinks sink (given (unlettered (opening_of media inputs sinks o))) (record { run = run; control = control_of o.world.control o.world.out o.script })
   begins_going p b run under_way only = record {
@@ -208,8 +197,8 @@ module _ {M I C W O : Type 0} (media : MediaOutside M) (inputs : SourceOutside I
 
 -- ---- the lists
 
-pub has_room : (s : Session) (lists : Lists) (tracks : ℕ) → lists ≡ no_lists tracks → tracks ≡ length s.tracks.items → HasRoom s lists
-has_room s lists tracks is many = subst (HasRoom s) (sym is) (record { no_rings = refl; rings_room = omega (arith, many); no_edits = refl; edits_room = omega arith })
+pub has_room : (s : Session) (lists : RunLists) (tracks : ℕ) → lists ≡ no_lists tracks → tracks ≡ length s.tracks.items → HaveRoomFor s lists
+has_room s lists tracks is many = subst (HaveRoomFor s) (sym is) (record { no_rings = refl; rings_room = omega (arith, many); no_edits = refl; edits_room = omega arith })
 
 -- ---- whether lines are read
 

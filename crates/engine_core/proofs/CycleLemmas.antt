@@ -18,7 +18,7 @@ use Rattle.butler.specs.ButlerState.{ButlerState}
 use Rattle.process_cycle.specs.declared.fault.CycleFault.{CycleFault}
 use Rattle.process_cycle.specs.declared.fault.CycleFault.TheVariants.{InputFault, MasterFault}
 use Rattle.process_cycle.specs.Cycles.{HasStopped, MakesEntry, next_bytes}
-use Rattle.process_cycle.specs.Ends.{AreOtherEnds}
+use Rattle.process_ends.specs.Ends.{AreOtherEnds}
 use Rattle.process_cycle.specs.Looked.{HasLooked}
 use Rattle.process_cycle.specs.Promised.{HoldsBlocks, IsMastered}
 use Rattle.process_cycle.specs.ProcessState.{ProcessState, entries_of, items_of}
@@ -29,17 +29,19 @@ use Rattle.worker_pair.specs.Runs.{HearsInput, Rests, Runs, given_last}
 use Rattle.worker_pair.specs.Steps.{EndsAsMachine}
 use Rattle.worker_pair.specs.Tied.{IsTied}
 use Rattle.worker_pair.proofs.NowLemmas.{now_rests, now_runs}
-use Rattle.engine_core.specs.declared.failed.Failed.{Failed}
+use Rattle.run_end.specs.declared.failures.Failures.{Failures}
 use Rattle.engine_core.specs.declared.run.Run.{Run}
-use Rattle.engine_core.specs.Failed.{IsCounted, after_cycle, has_stopped}
-use Rattle.engine_core.specs.Depths.{HaveDepths}
-use Rattle.engine_core.specs.CutOff.{IsCutInCycle}
-use Rattle.engine_core.specs.Started.{Started, now_of, AreCounted}
+use Rattle.run_end.specs.Failures.{IsFaultCount, after_cycle, has_stopped}
+use Rattle.run_end.specs.Depths.{HaveDepths}
+use Rattle.run_end.specs.CutOff.{IsCutInCycle}
+use Rattle.run_end.specs.Started.{Started}
+use Rattle.engine_core.specs.Now.{now_of, AreCounted}
 use Rattle.engine_core.specs.UnderWay.{InputIsShort, IsInputOf, IsUnderWay}
 use Rattle.engine_core.specs.Letters.{CycleIsP, GatheringIsG, GathersOn}
-use Rattle.engine_core.proofs.DepthLemmas.{depths_met, depths_played}
+use Rattle.run_end.proofs.DepthLemmas.{depths_met, depths_played}
 use Rattle.engine_core.proofs.GatherLemmas.{cycles_gathered, going, input_is_fine, master_is_fine, old_runs}
-use Rattle.engine_core.proofs.KeepLemmas.{counted_more, items_met}
+use Rattle.run_end.proofs.CountedLemmas.{counted_more}
+use Rattle.engine_core.proofs.KeepLemmas.{items_met}
 
 -- all of a stream without frames was read
 all_read : {I : Type 0} (inputs : SourceOutside I) (start : List ℕ) (blocks : ℕ) (x : InputState I) → IsReadTo inputs (record { start = start; blocks = blocks }) x → x.stream.frames ≡ 0 →
@@ -73,7 +75,7 @@ module _ {V I W : Type 0} (media : MediaOutside V) (inputs : SourceOutside I) (s
 
   module _ (new : Pair V I W) (answer : Result (Unit {0}) CycleFault) (cycles : Cycles inputs sinks (now_of on old) old.pair answer new) where
     -- the run afterwards
-    abbrev cycled : Failed → Run V I W
+    abbrev cycled : Failures → Run V I W
     cycled failed = record { pair = new; failed = failed }
 
     -- the place is the same
@@ -90,15 +92,15 @@ module _ {V I W : Type 0} (media : MediaOutside V) (inputs : SourceOutside I) (s
     master_met = ap (λ (z : ProcessState I W). z.master) cycles.met.process_is
 
     -- all counts, by those of input and master
-    counted : (failed : Failed) → failed.read ≡ old.failed.read → failed.write ≡ old.failed.write → IsCounted (inputs.faults on.input) (inputs.faults cycles.process.input.input) failed.input →
-        IsCounted (sinks.faults on.master) (sinks.faults cycles.process.master.sink) failed.master → AreCounted media inputs sinks on (cycled failed)
+    counted : (failed : Failures) → failed.read ≡ old.failed.read → failed.write ≡ old.failed.write → IsFaultCount (inputs.faults on.input) (inputs.faults cycles.process.input.input) failed.input →
+        IsFaultCount (sinks.faults on.master) (sinks.faults cycles.process.master.sink) failed.master → AreCounted media inputs sinks on (cycled failed)
     counted failed read write input master = record {
-      reads = subst (λ (b : ButlerState V). IsCounted (media.read_faults on.media) (media.read_faults b.media) failed.read) (sym cycles.met.butler)
-          (subst (IsCounted (media.read_faults on.media) (media.read_faults old.pair.butler.media)) (sym read) is.counts.reads);
-      writes = subst (λ (b : ButlerState V). IsCounted (media.write_faults on.media) (media.write_faults b.media) failed.write) (sym cycles.met.butler)
-          (subst (IsCounted (media.write_faults on.media) (media.write_faults old.pair.butler.media)) (sym write) is.counts.writes);
-      inputs_are = subst (λ (z : InputState I). IsCounted (inputs.faults on.input) (inputs.faults z.input) failed.input) (sym input_met) input;
-      masters = subst (λ (z : MasterState W). IsCounted (sinks.faults on.master) (sinks.faults z.sink) failed.master) (sym master_met) master;
+      reads = subst (λ (b : ButlerState V). IsFaultCount (media.read_faults on.media) (media.read_faults b.media) failed.read) (sym cycles.met.butler)
+          (subst (IsFaultCount (media.read_faults on.media) (media.read_faults old.pair.butler.media)) (sym read) is.counts.reads);
+      writes = subst (λ (b : ButlerState V). IsFaultCount (media.write_faults on.media) (media.write_faults b.media) failed.write) (sym cycles.met.butler)
+          (subst (IsFaultCount (media.write_faults on.media) (media.write_faults old.pair.butler.media)) (sym write) is.counts.writes);
+      inputs_are = subst (λ (z : InputState I). IsFaultCount (inputs.faults on.input) (inputs.faults z.input) failed.input) (sym input_met) input;
+      masters = subst (λ (z : MasterState W). IsFaultCount (sinks.faults on.master) (sinks.faults z.sink) failed.master) (sym master_met) master;
       butler_reads = ap (λ (b : ButlerState V). b.read_failed) cycles.met.butler ∙ is.counts.butler_reads ∙ sym read;
       butler_writes = ap (λ (b : ButlerState V). b.write_failed) cycles.met.butler ∙ is.counts.butler_writes ∙ sym write;
     }
@@ -142,7 +144,7 @@ module _ {V I W : Type 0} (media : MediaOutside V) (inputs : SourceOutside I) (s
           (subst (λ (z : ProcessState I W). HaveDepths on.begun.session z.ends) (sym stopped) is.depths)
 
       -- where the master stands, it holds what it held
-      mastered_still : cycles.process.master ≡ old.pair.process.master → IsMastered sinks (playing_at (now_of on old)) old.pair.process → (failed : Failed) →
+      mastered_still : cycles.process.master ≡ old.pair.process.master → IsMastered sinks (playing_at (now_of on old)) old.pair.process → (failed : Failures) →
           IsMastered sinks (playing_at (now_of on (cycled failed))) new.process
       mastered_still master was failed tells =
           subst (λ l. HoldsBlocks sinks (record { session = on.begun.session; edits = l; start = on.begun.start; before = on.begun.before }) new.process.journal.room (entries_of new.process)
@@ -155,7 +157,7 @@ module _ {V I W : Type 0} (media : MediaOutside V) (inputs : SourceOutside I) (s
       -- where a write of it failed, it was cut in this cycle
       cut_in_cycle : IsValid old.pair.playing.session → IsReadTo inputs (record { start = on.begun.start; blocks = suc (length old.pair.process.journal.items) }) cycles.process.input →
           (sinks.tells → AppendsSome (sinks.held old.pair.process.master.sink) (sinks.held cycles.process.master.sink) (next_bytes on.begun.session old.pair.playing old.pair.process)) →
-          (failed : Failed) → IsCutInCycle inputs sinks (playing_at (now_of on (cycled failed))) new.process
+          (failed : Failures) → IsCutInCycle inputs sinks (playing_at (now_of on (cycled failed))) new.process
       cut_in_cycle valid read front failed = subst (λ l. IsCutInCycle inputs sinks (record { session = on.begun.session; edits = l; start = on.begun.start; before = on.begun.before }) new.process)
           (sym played_same) (record {
             before = old.pair.process;
@@ -177,7 +179,7 @@ module _ {V I W : Type 0} (media : MediaOutside V) (inputs : SourceOutside I) (s
           })
 
       -- where a read failed, the input is short
-      short : (failed : Failed) → IsCutShort inputs old.pair.process.input cycles.process.input → InputIsShort inputs on (cycled failed)
+      short : (failed : Failures) → IsCutShort inputs old.pair.process.input cycles.process.input → InputIsShort inputs on (cycled failed)
       short failed lost = record {
         before = old.pair.process.input;
         of = is.input;
@@ -195,8 +197,8 @@ module _ {V I W : Type 0} (media : MediaOutside V) (inputs : SourceOutside I) (s
     runs = λ still. now;
     shut = λ stopped. absurd (false≢true (sym goes ∙ stopped));
     counts = counted new (Ok x) cycles old.failed refl refl
-        (subst (λ n. IsCounted (inputs.faults on.input) n old.failed.input) (sym cycles.reads.no_fault) is.counts.inputs_are)
-        (subst (λ n. IsCounted (sinks.faults on.master) n old.failed.master) (sym cycles.writes.cause.kept) is.counts.masters);
+        (subst (λ n. IsFaultCount (inputs.faults on.input) n old.failed.input) (sym cycles.reads.no_fault) is.counts.inputs_are)
+        (subst (λ n. IsFaultCount (sinks.faults on.master) n old.failed.master) (sym cycles.writes.cause.kept) is.counts.masters);
     opened = opened new (Ok x) cycles;
     hears = hears;
     input = input_of new (Ok x) cycles cycles.reads.stream cycles.reads.block cycles.reads.ended;
@@ -212,7 +214,7 @@ module _ {V I W : Type 0} (media : MediaOutside V) (inputs : SourceOutside I) (s
     counts = counted new (Err InputFault) cycles (record old.failed { input = true }) refl refl
         (counted_more (inputs.faults on.input) (inputs.faults old.pair.process.input.input) (inputs.faults cycles.process.input.input) old.failed.input
         cycles.reads.later cycles.reads.rose is.counts.inputs_are)
-        (subst (λ (m : MasterState W). IsCounted (sinks.faults on.master) (sinks.faults m.sink) old.failed.master) (sym cycles.writes) is.counts.masters);
+        (subst (λ (m : MasterState W). IsFaultCount (sinks.faults on.master) (sinks.faults m.sink) old.failed.master) (sym cycles.writes) is.counts.masters);
     opened = opened new (Err InputFault) cycles;
     hears = hears;
     input = input_of new (Err InputFault) cycles cycles.reads.stream cycles.reads.block cycles.reads.ended;
@@ -226,7 +228,7 @@ module _ {V I W : Type 0} (media : MediaOutside V) (inputs : SourceOutside I) (s
     runs = λ still. absurd (false≢true (sym still ∙ or_right old.failed.input true refl));
     shut = λ stopped. shut new (Err MasterFault) cycles;
     counts = counted new (Err MasterFault) cycles (record old.failed { master = true }) refl refl
-        (subst (λ n. IsCounted (inputs.faults on.input) n old.failed.input) (sym cycles.reads.no_fault) is.counts.inputs_are)
+        (subst (λ n. IsFaultCount (inputs.faults on.input) n old.failed.input) (sym cycles.reads.no_fault) is.counts.inputs_are)
         (counted_more (sinks.faults on.master) (sinks.faults old.pair.process.master.sink) (sinks.faults cycles.process.master.sink) old.failed.master
         cycles.writes.cause.later cycles.writes.cause.rose is.counts.masters);
     opened = opened new (Err MasterFault) cycles;
@@ -239,10 +241,10 @@ module _ {V I W : Type 0} (media : MediaOutside V) (inputs : SourceOutside I) (s
   }
 
   -- **A run that made a cycle is under way.**
-  pub under_way_cycled : IsValid old.pair.playing.session → (new : Pair V I W) (answer : Result (Unit {0}) CycleFault) (failed : Failed) → failed ≡ after_cycle answer old.failed → Cycles inputs sinks (now_of on old) old.pair answer new →
+  pub under_way_cycled : IsValid old.pair.playing.session → (new : Pair V I W) (answer : Result (Unit {0}) CycleFault) (failed : Failures) → failed ≡ after_cycle answer old.failed → Cycles inputs sinks (now_of on old) old.pair answer new →
       OnOk answer (Runs media inputs sinks (now_of on old) new) → Rests media (now_of on old) new → HearsInput inputs (now_of on old) new →
       IsUnderWay media inputs sinks on (record { pair = new; failed = failed })
-  under_way_cycled valid new answer failed same cycles ok rests hears = subst (λ (f : Failed). IsUnderWay media inputs sinks on (record { pair = new; failed = f })) (sym same)
+  under_way_cycled valid new answer failed same cycles ok rests hears = subst (λ (f : Failures). IsUnderWay media inputs sinks on (record { pair = new; failed = f })) (sym same)
       (under_way_by valid new answer cycles ok rests hears)
 
 -- ---- the core machine
@@ -265,6 +267,6 @@ module _ {V I W : Type 0} (s : Session) (old gathered : Run V I W) (gathers : Ga
       absurd (false≢true (sym (ap (λ b. not (b || gathered.failed.read || gathered.failed.write)) (or_right gathered.failed.input true refl)) ∙ fine))
 
   -- by what failed of it
-  pub cycles_open : gathered.pair.in_cycle ≡ true → (new : Pair V I W) (answer : Result (Unit {0}) CycleFault) (failed : Failed) → failed ≡ after_cycle answer gathered.failed →
+  pub cycles_open : gathered.pair.in_cycle ≡ true → (new : Pair V I W) (answer : Result (Unit {0}) CycleFault) (failed : Failures) → failed ≡ after_cycle answer gathered.failed →
       EndsAsMachine s gathered.pair answer new → CycleIsP s old (record { pair = new; failed = failed })
-  cycles_open opens new answer failed same ends = subst (λ (f : Failed). CycleIsP s old (record { pair = new; failed = f })) (sym same) (open_by opens new answer ends)
+  cycles_open opens new answer failed same ends = subst (λ (f : Failures). CycleIsP s old (record { pair = new; failed = f })) (sym same) (open_by opens new answer ends)

@@ -1,6 +1,6 @@
 -- The last turns, where nothing fails, are letters of the core machine.
 use Rattle.std.proofs.Common.{◌≡◌, ℕ, zero, suc, ◌≤◌, length, refl, sym, ap, subst, ◌∙◌, arith}
-use Rattle.std.specs.Prelude.{true, false, map, Result, Ok, Err}
+use Rattle.std.specs.Prelude.{Bool, true, false, map, Result, Ok, Err}
 use Rattle.std.proofs.lemmas.Bool.{false≢true}
 use Rattle.std.proofs.lemmas.List.{length-map, length-reverse}
 use Rattle.ses_io.specs.Outside.{MediaOutside}
@@ -14,86 +14,84 @@ use Rattle.butler.specs.declared.turning.Turn.{Turn}
 use Rattle.butler.specs.declared.faults.ButlerFault.{ButlerFault}
 use Rattle.butler.specs.declared.faults.ButlerFault.TheVariants.{ReadFault, WriteFault}
 use Rattle.worker_pair.specs.declared.ending.Ending.{Ending}
-use Rattle.worker_pair.specs.Begun.{At}
-use Rattle.worker_pair.specs.Runs.{Serves}
-use Rattle.worker_pair.specs.Steps.{TurnsAsMachine, is_idle_answer, is_idle_turn}
+use Rattle.worker_pair.specs.Begun.{Begun}
+use Rattle.worker_pair.specs.Steps.{TurnsAsMachine, is_idle_answer}
 use Rattle.worker_pair.specs.Tied.{AreRingsOf}
+use Rattle.worker_pair.proofs.CoreTurnLemmas.{ending_turned}
 use Rattle.worker_pair.proofs.MachineTurnLemmas.{turn_stands}
-use Rattle.engine_core.specs.declared.failed.Failed.{Failed}
-use Rattle.engine_core.specs.Failed.{after_turn, nothing_failed}
-use Rattle.engine_core.proofs.TurnLemmas.{some_read, some_write}
-use Rattle.engine_core.specs.MachineEnds.{DrainsAsMachine, DrainsFrom, DrainsTo}
+use Rattle.run_end.specs.declared.failures.Failures.{Failures}
+use Rattle.run_end.specs.Failures.{after_turn, nothing_failed}
+use Rattle.run_end.specs.LastTurns.{IsLastTurn, TurnsTo, at_last}
+use Rattle.run_end.proofs.FaultLemmas.{fine_before, some_read, some_write}
+use Rattle.engine_core.specs.MachineEnds.{DrainsFrom}
 
--- The turns made so far, each of which moved something: whatever leads on from here leads from the first state.
-pub record HasTurned {V : Type 0} (s : Session) (cycles : ℕ) (c : Core) (e : Ending V) : Type 0 where
-  pub now : Core
-  pub leads : (n : ℕ) (d : Core) → DrainsTo s cycles now n d → (m : ℕ) × DrainsTo s cycles c m d
-  pub rings : AreRingsOf s now e
-  pub entries : now.entries ≡ c.entries
-  pub to_control : now.to_control ≡ c.to_control
+module _ {V : Type 0} (media : MediaOutside V) (begun : Begun) where
+  abbrev s : Session
+  s = begun.session
 
--- so it is of each state of the core machine that the rings were, where nothing has failed by then
-abbrev pub TurnsOnMachine : {V : Type 0} → Session → Ending V → Failed → Ending V → Type 0
-TurnsOnMachine s first now e = (c : Core) → nothing_failed now ≡ true → AreRingsOf s c first → HasTurned s first.butler.cycles c e
+  -- where nothing has failed at the end nothing had before
+  fine_then : (n : ℕ) (old : Ending V) (was : Failures) (new : Ending V) (now : Failures) → TurnsTo media begun n old was new now → nothing_failed now ≡ true → nothing_failed was ≡ true
+  fine_then zero old was new now turn fine = fine_before turn.answer was (ap nothing_failed (sym turn.noted) ∙ fine)
+  fine_then (suc n) old was new now to fine = fine_before to.2.answer was (ap nothing_failed (sym to.2.noted) ∙ fine_then n to.0 to.1 new now to.3 fine)
 
--- no turn was made
-pub none_made : {V : Type 0} (s : Session) (e : Ending V) (f : Failed) → TurnsOnMachine s e f e
-none_made s e f c fine rings = record { now = c; leads = λ n d drains. (n, drains); rings = rings; entries = refl; to_control = refl }
+  -- a turn that was answered Ok is the letter B
+  by_answer : (answer : Result Turn ButlerFault) (idle : Bool) (old new : Ending V) (was : Failures) (c : Core) → is_idle_answer answer ≡ idle → nothing_failed (after_turn answer was) ≡ true →
+      TurnsAsMachine s old answer new → AreRingsOf s c old →
+      AreRingsOf s (after s old.butler.cycles c (butler_moves s old.butler.cycles c)) new × (is_idle s old.butler.cycles c ≡ idle)
+  by_answer (Ok turn) idle old new was c so fine machine rings = let m = machine c rings in (m.0, sym m.1 ∙ so)
+  by_answer (Err ReadFault) idle old new was c so fine machine rings = absurd (false≢true (sym (some_read was.input was.master was.write) ∙ fine))
+  by_answer (Err WriteFault) idle old new was c so fine machine rings = absurd (false≢true (sym (some_write was.input was.master was.read) ∙ fine))
 
-module _ {V : Type 0} (media : MediaOutside V) (at : At) (s : Session) (first old new : Ending V) (serves : Serves media at old) (cycles : old.butler.cycles ≡ first.butler.cycles) where
-  module _ (c : Core) (turn : Turn) (as_machine : TurnsAsMachine s old (Ok turn) new) (so : HasTurned s first.butler.cycles c old) where
-    abbrev k : ℕ
-    k = first.butler.cycles
+  module _ (idle : Bool) (old : Ending V) (was : Failures) (new : Ending V) (now : Failures) (turn : IsLastTurn media begun idle old was new now) where
+    as_machine : TurnsAsMachine s old turn.answer new
+    as_machine = let t = turn.turns in subst (TurnsAsMachine s old turn.answer) (sym t.same)
+        (ending_turned media (at_last begun old) old turn.answer t.butler turn.serves t.turn new.ends new.butler.ends t.met (record t.butler { ends = new.butler.ends }) refl)
 
-    -- the rings are those of the state after the letter
-    does : AreRingsOf s (after s k so.now (butler_moves s k so.now)) new × (is_idle_turn turn ≡ is_idle s k so.now)
-    does = subst (λ n. AreRingsOf s (after s n so.now (butler_moves s n so.now)) new × (is_idle_turn turn ≡ is_idle s n so.now)) cycles (as_machine so.now so.rings)
+    cycles_stand : new.butler.cycles ≡ old.butler.cycles
+    cycles_stand = ap (λ (e : Ending V). e.butler.cycles) turn.turns.same ∙ turn.turns.turn.rest.cycles
 
-    -- no more acknowledgements were taken than were sent
-    few : so.now.to_butler.taken ≤ length so.now.to_butler.sent
-    few = omega (
-      arith,
-      so.rings.taken,
-      ap length so.rings.acks,
-      length-reverse (map ack_of old.ends.to_butler.sent),
-      length-map old.ends.to_butler.sent ack_of,
-      begins_length old.butler.ends.acks.received old.ends.to_butler.sent serves.met.acks.passed.begins,
-    )
+    module _ (c : Core) (fine : nothing_failed now ≡ true) (rings : AreRingsOf s c old) where
+      abbrev next : Core
+      next = after s old.butler.cycles c (butler_moves s old.butler.cycles c)
 
-    one_more : is_idle_turn turn ≡ false → HasTurned s k c new
-    one_more busy = record {
-      now = after s k so.now (butler_moves s k so.now);
-      leads = λ n d drains. so.leads (suc n) d (sym does.1 ∙ busy, drains);
-      rings = does.0;
-      entries = (turn_stands s k so.now few).entries ∙ so.entries;
-      to_control = (turn_stands s k so.now few).to_control ∙ so.to_control;
-    }
+      does : AreRingsOf s next new × (is_idle s old.butler.cycles c ≡ idle)
+      does = by_answer turn.answer idle old new was c turn.idle_so (ap nothing_failed (sym turn.noted) ∙ fine) as_machine rings
 
-    the_last : is_idle_turn turn ≡ true → DrainsFrom s k c new
-    the_last idle = let way = so.leads zero (after s k so.now (butler_moves s k so.now)) (sym does.1 ∙ idle, refl) in record {
-      last = after s k so.now (butler_moves s k so.now);
-      turns = way.0;
-      drains = way.1;
-      rings = does.0;
-      entries = (turn_stands s k so.now few).entries ∙ so.entries;
-      to_control = (turn_stands s k so.now few).to_control ∙ so.to_control;
-    }
+      -- no more acknowledgements were taken than were sent
+      few : c.to_butler.taken ≤ length c.to_butler.sent
+      few = omega (
+        arith,
+        rings.taken,
+        ap length rings.acks,
+        length-reverse (map ack_of old.ends.to_butler.sent),
+        length-map old.ends.to_butler.sent ack_of,
+        begins_length old.butler.ends.acks.received old.ends.to_butler.sent turn.serves.met.acks.passed.begins,
+      )
 
-  -- a turn that moved something,
-  pub turns_on : (answer : Result Turn ButlerFault) (was failed : Failed) → failed ≡ after_turn answer was → is_idle_answer answer ≡ false → TurnsAsMachine s old answer new → TurnsOnMachine s first was old →
-      TurnsOnMachine s first failed new
-  turns_on answer was failed noted busy machine so c fine rings = by answer busy machine (sym (ap nothing_failed noted) ∙ fine)
-    where
-      by : (answer : Result Turn ButlerFault) → is_idle_answer answer ≡ false → TurnsAsMachine s old answer new → nothing_failed (after_turn answer was) ≡ true → HasTurned s first.butler.cycles c new
-      by (Ok turn) busy machine fine = one_more c turn machine (so c fine rings) busy
-      by (Err ReadFault) busy machine fine = absurd (false≢true (sym (some_read was.input was.master was.write) ∙ fine))
-      by (Err WriteFault) busy machine fine = absurd (false≢true (sym (some_write was.input was.master was.read) ∙ fine))
+      entries_stand : next.entries ≡ c.entries
+      entries_stand = (turn_stands s old.butler.cycles c few).entries
 
-  -- and one that moved nothing
-  pub comes_to_rest : (answer : Result Turn ButlerFault) (was failed : Failed) → failed ≡ after_turn answer was → is_idle_answer answer ≡ true → TurnsAsMachine s old answer new → TurnsOnMachine s first was old →
-      DrainsAsMachine s first failed new
-  comes_to_rest answer was failed noted idle machine so c fine rings = by answer idle machine (sym (ap nothing_failed noted) ∙ fine)
-    where
-      by : (answer : Result Turn ButlerFault) → is_idle_answer answer ≡ true → TurnsAsMachine s old answer new → nothing_failed (after_turn answer was) ≡ true → DrainsFrom s first.butler.cycles c new
-      by (Ok turn) idle machine fine = the_last c turn machine (so c fine rings) idle
-      by (Err fault) idle machine fine = absurd (false≢true idle)
+      control_stands : next.to_control ≡ c.to_control
+      control_stands = (turn_stands s old.butler.cycles c few).to_control
+
+  -- **So the last turns are so many letters B**, the last of which moves nothing.
+  pub drains_from : (n : ℕ) (old : Ending V) (was : Failures) (new : Ending V) (now : Failures) → TurnsTo media begun n old was new now → (c : Core) → nothing_failed now ≡ true → AreRingsOf s c old →
+      DrainsFrom s old.butler.cycles c new
+  drains_from zero old was new now turn c fine rings = let one = does true old was new now turn c fine rings in record {
+    last = after s old.butler.cycles c (butler_moves s old.butler.cycles c);
+    turns = zero;
+    drains = (one.1, refl);
+    rings = one.0;
+    entries = entries_stand true old was new now turn c fine rings;
+    to_control = control_stands true old was new now turn c fine rings;
+  }
+  drains_from (suc n) old was new now to c fine rings = let mid = to.0 in let by = to.1 in let turn = to.2 in let good = fine_then n mid by new now to.3 fine in
+      let one = does false old was mid by turn c good rings in let d = after s old.butler.cycles c (butler_moves s old.butler.cycles c) in
+      let rest = subst (λ k. DrainsFrom s k d new) (cycles_stand false old was mid by turn) (drains_from n mid by new now to.3 d fine one.0) in record {
+        last = rest.last;
+        turns = suc rest.turns;
+        drains = (one.1, rest.drains);
+        rings = rest.rings;
+        entries = rest.entries ∙ entries_stand false old was mid by turn c good rings;
+        to_control = rest.to_control ∙ control_stands false old was mid by turn c good rings;
+      }

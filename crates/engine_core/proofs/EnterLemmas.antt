@@ -8,10 +8,11 @@ use Rattle.worker_pair.specs.declared.pair.Pair.{Pair}
 use Rattle.worker_pair.specs.Runs.{Runs}
 use Rattle.worker_pair.specs.Steps.{Enters}
 use Rattle.worker_pair.proofs.NowLemmas.{runs_rest}
-use Rattle.engine_core.specs.declared.failed.Failed.{Failed}
+use Rattle.run_end.specs.declared.failures.Failures.{Failures}
 use Rattle.engine_core.specs.declared.run.Run.{Run}
-use Rattle.engine_core.specs.Failed.{has_stopped, nothing_failed}
-use Rattle.engine_core.specs.Started.{Started, now_of}
+use Rattle.run_end.specs.Failures.{has_stopped, nothing_failed}
+use Rattle.run_end.specs.Started.{Started}
+use Rattle.engine_core.specs.Now.{now_of}
 use Rattle.engine_core.specs.UnderWay.{IsUnderWay}
 use Rattle.engine_core.specs.Letters.{EntersOn}
 use Rattle.engine_core.proofs.KeepLemmas.{counts_stand, short_stands}
@@ -22,7 +23,7 @@ either true = inl refl
 either false = inr refl
 
 -- where a process has stopped, something has failed
-pub failed_where_stopped : (f : Failed) → has_stopped f ≡ true → nothing_failed f ≡ false
+pub failed_where_stopped : (f : Failures) → has_stopped f ≡ true → nothing_failed f ≡ false
 failed_where_stopped f stopped = ap (λ b. not (b || f.read || f.write)) stopped
 
 module _ {V I W : Type 0} (media : MediaOutside V) (inputs : SourceOutside I) (sinks : SinkOutside W) (on : Started V I W) (old : Run V I W) (is : IsUnderWay media inputs sinks on old)

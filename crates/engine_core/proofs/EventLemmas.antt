@@ -11,7 +11,7 @@ use Rattle.machine_model.specs.Letters.{Letter, Machine, B, E, G, P, moves}
 use Rattle.machine_model.specs.Events.{after}
 use Rattle.worker_pair.specs.Tied.{IsTied}
 use Rattle.engine_core.specs.declared.run.Run.{Run}
-use Rattle.engine_core.specs.Failed.{nothing_failed}
+use Rattle.run_end.specs.Failures.{nothing_failed}
 use Rattle.engine_core.specs.UnderWay.{IsUnderWay}
 use Rattle.engine_core.specs.Letters.{CycleIsP, CyclesOn, EnteringIsE, EntersOn, GatheringIsG, GathersOn, TurnIsB, TurnsOn}
 use Rattle.engine_core.specs.declared.engine.Engine.{Engine}

@@ -28,7 +28,7 @@ use Rattle.worker_pair.specs.Tied.{IsTied}
 use Rattle.engine_core.specs.declared.run.Run.{Run}
 use Rattle.engine_core.specs.Fed.{AllHeard, IsFed, PlayAsPlain, PlaysAs, plays_of, sends_of, sent_of}
 use Rattle.engine_core.specs.Shows.{made_of}
-use Rattle.engine_core.specs.Started.{Started}
+use Rattle.run_end.specs.Started.{Started}
 use Rattle.engine_core.specs.UnderWay.{IsUnderWay}
 
 no_length : {X : Type 0} (xs : List X) → length xs ≡ 0 → xs ≡ []

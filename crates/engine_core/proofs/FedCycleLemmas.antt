@@ -38,27 +38,28 @@ use Rattle.process_cycle.specs.declared.fault.CycleFault.TheVariants.{InputFault
 use Rattle.process_cycle.specs.Cycles.{Acknowledges, MakesEntry, ack_of}
 use Rattle.process_cycle.specs.ProcessState.{ProcessState, entries_of, kinds_of}
 use Rattle.worker_pair.specs.declared.pair.Pair.{Pair}
-use Rattle.process_cycle.specs.Ends.{AllMeet}
+use Rattle.process_ends.specs.Ends.{AllMeet}
 use Rattle.worker_pair.specs.Plays.{Cycles, Looks, MeetsAfter}
 use Rattle.worker_pair.specs.Runs.{Runs, given_last}
 use Rattle.worker_pair.proofs.LookLemmas.{kinds_turned}
-use Rattle.engine_core.specs.declared.failed.Failed.{Failed}
+use Rattle.run_end.specs.declared.failures.Failures.{Failures}
 use Rattle.engine_core.specs.declared.run.Run.{Run}
-use Rattle.engine_core.specs.Failed.{after_cycle}
+use Rattle.run_end.specs.Failures.{after_cycle}
 use Rattle.engine_core.specs.Fed.{AllHeard, AllReady, IsFed, IsNewest, PlaysAs, plays_of, sends_of, sent_of}
 use Rattle.engine_core.specs.Letters.{CyclesOn, MakesCycle}
 use Rattle.engine_core.specs.Shows.{edits_of, made_of}
-use Rattle.engine_core.specs.Started.{Started, now_of}
+use Rattle.run_end.specs.Started.{Started}
+use Rattle.engine_core.specs.Now.{now_of}
 use Rattle.engine_core.specs.UnderWay.{IsUnderWay}
 use Rattle.engine_core.proofs.FedLists.{entry_plays, next_with, told_few}
 use Rattle.engine_core.proofs.FedLookLemmas.{track_at}
 use Rattle.engine_core.proofs.GatherLemmas.{old_runs}
 use Rattle.engine_core.proofs.GrowLemmas.{more_made}
-use Rattle.engine_core.proofs.LastTurnLemmas.{same_begins}
+use Rattle.run_end.proofs.LastTurnLemmas.{same_begins}
 use Rattle.engine_core.proofs.SerialCycleLemmas.{many_made}
 use Rattle.engine_core.proofs.ServeLemmas.{enters_none}
 
-pub read_cycled : (answer : Result (Unit {0}) CycleFault) (f : Failed) → (after_cycle answer f).read ≡ f.read
+pub read_cycled : (answer : Result (Unit {0}) CycleFault) (f : Failures) → (after_cycle answer f).read ≡ f.read
 read_cycled (Ok x) f = refl
 read_cycled (Err InputFault) f = refl
 read_cycled (Err MasterFault) f = refl
@@ -123,7 +124,7 @@ module _ {V I W : Type 0} (media : MediaOutside V) (inputs : SourceOutside I) (s
   makes = cycles.cycles (ap (λ (p : Pair V I W). p.in_cycle) looked.same ∙ newest.opens)
 
   pub read_before : new.failed.read ≡ false → served.failed.read ≡ false
-  read_before fine = ap (λ (f : Failed). f.read) (sym cycles.gathers.failed) ∙ sym (read_cycled makes.answer g.failed) ∙ sym (ap (λ (f : Failed). f.read) makes.failed) ∙ fine
+  read_before fine = ap (λ (f : Failures). f.read) (sym cycles.gathers.failed) ∙ sym (read_cycled makes.answer g.failed) ∙ sym (ap (λ (f : Failures). f.read) makes.failed) ∙ fine
 
   running : Runs media inputs sinks (now_of on served) served.pair
   running = old_runs media inputs sinks on served is newest.opens

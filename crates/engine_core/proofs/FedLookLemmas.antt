@@ -33,7 +33,7 @@ use Rattle.track_playback.specs.declared.playback.SpareBox.{SpareBox}
 use Rattle.track_playback.specs.declared.playback.SpareBox.TheVariants.{Husk, Held, Lent}
 use Rattle.track_playback.specs.Looks.{EndsWith, HasAllTold}
 use Rattle.track_playback.specs.SpareBoxes.{HoldsTheLast, offers}
-use Rattle.process_cycle.specs.Ends.{Meet}
+use Rattle.process_ends.specs.Ends.{Meet}
 use Rattle.process_cycle.specs.ProcessState.{ProcessState, entries_of, position_of}
 use Rattle.worker_pair.specs.declared.pair.Pair.{Pair}
 use Rattle.worker_pair.specs.Plays.{Looks}
@@ -42,10 +42,10 @@ use Rattle.engine_core.specs.declared.run.Run.{Run}
 use Rattle.engine_core.specs.Fed.{AllHeard, IsFed, IsNewest, plays_of, sends_of, sent_of}
 use Rattle.engine_core.specs.Letters.{GathersOn}
 use Rattle.engine_core.specs.Shows.{made_of}
-use Rattle.engine_core.specs.Started.{Started}
+use Rattle.run_end.specs.Started.{Started}
 use Rattle.engine_core.specs.UnderWay.{IsUnderWay}
 use Rattle.engine_core.proofs.GatherLemmas.{old_runs}
-use Rattle.engine_core.proofs.LastTurnLemmas.{same_begins}
+use Rattle.run_end.proofs.LastTurnLemmas.{same_begins}
 use Rattle.engine_core.proofs.ServeLemmas.{enters_none}
 
 -- what was received last of what was sent isn't held

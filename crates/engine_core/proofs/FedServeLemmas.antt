@@ -17,14 +17,14 @@ use Rattle.edition_log.specs.EditionState.{EditionState}
 use Rattle.butler.specs.Sends.{acks_of}
 use Rattle.process_cycle.specs.ProcessState.{entries_of}
 use Rattle.worker_pair.specs.declared.pair.Pair.{Pair}
-use Rattle.engine_core.specs.declared.failed.Failed.{Failed}
+use Rattle.run_end.specs.declared.failures.Failures.{Failures}
 use Rattle.engine_core.specs.declared.run.Run.{Run}
 use Rattle.engine_core.specs.Cycles.{IsServed, MayPlay}
-use Rattle.engine_core.specs.Failed.{has_stopped}
+use Rattle.run_end.specs.Failures.{has_stopped}
 use Rattle.engine_core.specs.Fed.{AllHeard, Feeds, FeedsSoFar, IsFed, IsNewest, PlaysAs, PlaysPlain, sent_of}
 use Rattle.engine_core.specs.Letters.{CyclesOn, EntersOn, GathersOn, TurnsOn}
 use Rattle.engine_core.specs.Shows.{edits_of, made_of}
-use Rattle.engine_core.specs.Started.{Started}
+use Rattle.run_end.specs.Started.{Started}
 use Rattle.engine_core.specs.UnderWay.{IsUnderWay}
 use Rattle.engine_core.proofs.EnterLemmas.{either}
 use Rattle.engine_core.proofs.FedCycleLemmas.{HasPlayed, cycle_plays, read_cycled}
@@ -44,7 +44,7 @@ module _ {V I W : Type 0} (media : MediaOutside V) (inputs : SourceOutside I) (s
   module _ (first old turned : Run V I W) (idle : Bool) (so_far : FeedsSoFar s first old) (is : IsUnderWay media inputs sinks on old) (now : IsUnderWay media inputs sinks on turned)
       (turns : TurnsOn media on old idle turned) where
     read_turned : turned.failed.read ≡ false → old.failed.read ≡ false
-    read_turned fine = turn.read_turned turns.answer old.failed (sym (ap (λ (f : Failed). f.read) turns.failed) ∙ fine)
+    read_turned fine = turn.read_turned turns.answer old.failed (sym (ap (λ (f : Failures). f.read) turns.failed) ∙ fine)
 
     -- a turn, and a look after it
     pub feeds_on : (new : Run V I W) → GathersOn turned new → IsUnderWay media inputs sinks on new → FeedsSoFar s first new
@@ -60,7 +60,7 @@ module _ {V I W : Type 0} (media : MediaOutside V) (inputs : SourceOutside I) (s
     }
       where
         before : new.failed.read ≡ false → turned.failed.read ≡ false
-        before fine = ap (λ (f : Failed). f.read) (sym gathers.failed) ∙ fine
+        before fine = ap (λ (f : Failures). f.read) (sym gathers.failed) ∙ fine
 
     -- an idle turn
     pub feeds_all : idle ≡ true → Feeds s first turned
@@ -131,16 +131,16 @@ module _ {V I W : Type 0} (media : MediaOutside V) (inputs : SourceOutside I) (s
   }
     where
       read_served : new.failed.read ≡ false → served.failed.read ≡ false
-      read_served fine = ap (λ (f : Failed). f.read) (sym cycles.gathers.failed) ∙ read_made fine
+      read_served fine = ap (λ (f : Failures). f.read) (sym cycles.gathers.failed) ∙ read_made fine
         where
           read_made : new.failed.read ≡ false → cycles.gathered.failed.read ≡ false
           read_made fine = elim (either cycles.gathered.pair.in_cycle) [
-            | inl open_now ↦ let m = cycles.cycles open_now in sym (read_cycled m.answer cycles.gathered.failed) ∙ sym (ap (λ (f : Failed). f.read) m.failed) ∙ fine
+            | inl open_now ↦ let m = cycles.cycles open_now in sym (read_cycled m.answer cycles.gathered.failed) ∙ sym (ap (λ (f : Failures). f.read) m.failed) ∙ fine
             | inr shut ↦ ap (λ (r : Run V I W). r.failed.read) (sym (cycles.stays shut)) ∙ fine
           ]
 
       read_old : served.failed.read ≡ false → old.failed.read ≡ false
-      read_old fine = ap (λ (f : Failed). f.read) (sym enters.failed) ∙ feeds.so_far.read_still fine
+      read_old fine = ap (λ (f : Failures). f.read) (sym enters.failed) ∙ feeds.so_far.read_still fine
 
       played : new.failed.read ≡ false → old.pair.in_cycle ≡ false → IsFed s old → AllHeard old → HasPlayed s served new
       played fine shut fed heard = let newest = is_newest old entered is may shut enters opens in let fed_now = enter_feeds old entered is may shut enters opens fed in

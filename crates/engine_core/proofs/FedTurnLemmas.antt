@@ -41,7 +41,7 @@ use Rattle.butler.specs.ButlerState.{ButlerState}
 use Rattle.butler.specs.Sends.{IsDone, SendsOf, acks_of}
 use Rattle.butler.specs.Serving.{IsTended}
 use Rattle.butler.specs.Turns.{Leaves}
-use Rattle.process_cycle.specs.Ends.{AreOtherEnds, EndsMeet}
+use Rattle.process_ends.specs.Ends.{AreOtherEnds, EndsMeet}
 use Rattle.process_cycle.specs.ProcessState.{entries_of}
 use Rattle.worker_pair.specs.declared.ending.Ending.{Ending}
 use Rattle.worker_pair.specs.declared.pair.Pair.{Pair}
@@ -50,20 +50,21 @@ use Rattle.worker_pair.specs.Tied.{rings_of}
 use Rattle.worker_pair.proofs.MetLemmas.{acks_met, play_met, send_met}
 use Rattle.worker_pair.proofs.TotalLemmas.{no_more_in_all}
 use Rattle.worker_pair.proofs.TurnLemmas.{others_turned}
-use Rattle.engine_core.specs.declared.failed.Failed.{Failed}
+use Rattle.run_end.specs.declared.failures.Failures.{Failures}
 use Rattle.engine_core.specs.declared.run.Run.{Run}
-use Rattle.engine_core.specs.Failed.{after_turn}
+use Rattle.run_end.specs.Failures.{after_turn}
 use Rattle.engine_core.specs.Fed.{AllHeard, AllReady, AreTaken, IsFed, IsNewest, plays_of, sends_of, sent_of}
 use Rattle.engine_core.specs.Letters.{TurnsOn}
 use Rattle.engine_core.specs.Shows.{edits_of, made_of}
-use Rattle.engine_core.specs.Started.{Started, now_of}
+use Rattle.run_end.specs.Started.{Started}
+use Rattle.engine_core.specs.Now.{now_of}
 use Rattle.engine_core.specs.UnderWay.{IsUnderWay}
 use Rattle.engine_core.proofs.FedLists.{sent_free, sent_once, sum_grows}
-use Rattle.engine_core.proofs.LastTurnLemmas.{same_begins}
+use Rattle.run_end.proofs.LastTurnLemmas.{same_begins}
 use Rattle.engine_core.proofs.SerialCycleLemmas.{many_made}
 
 -- a read that had failed has
-pub read_turned : (answer : Result Turn ButlerFault) (f : Failed) → (after_turn answer f).read ≡ false → f.read ≡ false
+pub read_turned : (answer : Result Turn ButlerFault) (f : Failures) → (after_turn answer f).read ≡ false → f.read ≡ false
 read_turned (Ok turn) f fine = fine
 read_turned (Err ReadFault) f fine = absurd (true≢false fine)
 read_turned (Err WriteFault) f fine = fine
@@ -109,7 +110,7 @@ module _ {V I W : Type 0} (media : MediaOutside V) (inputs : SourceOutside I) (s
   others = others_turned media (now_of on old) (rings_of old.pair) turned.answer turned.turns.butler is.rests.serves turned.turns.turn
 
   pub read_before : old.failed.read ≡ false
-  read_before = read_turned turned.answer old.failed (sym (ap (λ (f : Failed). f.read) turned.failed) ∙ fine)
+  read_before = read_turned turned.answer old.failed (sym (ap (λ (f : Failures). f.read) turned.failed) ∙ fine)
 
   deep : 0 < s.depth
   deep = omega (arith, is.rests.serves.serving.valid.formed.limits.depth.least)

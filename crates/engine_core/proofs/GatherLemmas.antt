@@ -18,24 +18,25 @@ use Rattle.worker_pair.specs.Runs.{Runs}
 use Rattle.worker_pair.specs.Steps.{LooksAsMachine}
 use Rattle.worker_pair.specs.Tied.{IsTied}
 use Rattle.worker_pair.proofs.NowLemmas.{now_runs, runs_rest}
-use Rattle.engine_core.specs.declared.failed.Failed.{Failed}
+use Rattle.run_end.specs.declared.failures.Failures.{Failures}
 use Rattle.engine_core.specs.declared.run.Run.{Run}
-use Rattle.engine_core.specs.Failed.{has_stopped}
-use Rattle.engine_core.specs.Started.{Started, now_of}
+use Rattle.run_end.specs.Failures.{has_stopped}
+use Rattle.run_end.specs.Started.{Started}
+use Rattle.engine_core.specs.Now.{now_of}
 use Rattle.engine_core.specs.UnderWay.{IsInputOf, IsUnderWay}
 use Rattle.engine_core.specs.Letters.{EnteringIsE, EntersOn, GatheringIsG, GathersOn}
-use Rattle.engine_core.proofs.DepthLemmas.{depths_played}
+use Rattle.run_end.proofs.DepthLemmas.{depths_played}
 use Rattle.engine_core.proofs.EnterLemmas.{cycles_entered, either}
 use Rattle.engine_core.proofs.KeepLemmas.{counts_stand}
 
 -- ---- what failed
 
 -- a process that goes on has had no fault of the master,
-pub master_is_fine : (f : Failed) → has_stopped f ≡ false → f.master ≡ true → ⊥
+pub master_is_fine : (f : Failures) → has_stopped f ≡ false → f.master ≡ true → ⊥
 master_is_fine f going bad = false≢true (sym going ∙ or_right f.input f.master bad)
 
 -- and none of the input
-pub input_is_fine : (f : Failed) → has_stopped f ≡ false → f.input ≡ true → ⊥
+pub input_is_fine : (f : Failures) → has_stopped f ≡ false → f.input ≡ true → ⊥
 input_is_fine f going bad = false≢true (sym going ∙ or_left f.input f.master bad)
 
 -- ---- a look

@@ -40,8 +40,9 @@ use Rattle.serial_laws.proofs.TruthLemmas.{answers_hold, answers_hold_on}
 use Rattle.worker_pair.specs.Tied.{IsTied}
 use Rattle.worker_pair.proofs.LongerLemmas.{quit_longer}
 use Rattle.engine_core.specs.declared.run.Run.{Run}
-use Rattle.engine_core.specs.Failed.{has_stopped, nothing_failed}
-use Rattle.engine_core.specs.Started.{Started, is_played_out, now_of}
+use Rattle.run_end.specs.Failures.{has_stopped, nothing_failed}
+use Rattle.run_end.specs.Started.{Started}
+use Rattle.engine_core.specs.Now.{is_played_out, now_of}
 use Rattle.engine_core.specs.UnderWay.{IsUnderWay}
 use Rattle.engine_core.specs.declared.engine.Engine.{Engine}
 use Rattle.engine_core.specs.Carrying.{CarriesALine, MayCarry, OnlyTheEdition, PublishesAsMachine}

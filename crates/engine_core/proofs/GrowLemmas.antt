@@ -19,10 +19,11 @@ use Rattle.worker_pair.specs.declared.ending.Ending.{Ending}
 use Rattle.worker_pair.specs.declared.pair.Pair.{Pair}
 use Rattle.worker_pair.specs.Plays.{Cycles}
 use Rattle.worker_pair.specs.Steps.{may_enter}
-use Rattle.engine_core.specs.declared.failed.Failed.{Failed}
+use Rattle.run_end.specs.declared.failures.Failures.{Failures}
 use Rattle.engine_core.specs.declared.run.Run.{Run}
-use Rattle.engine_core.specs.Failed.{after_cycle, after_turn, has_stopped, nothing_failed}
-use Rattle.engine_core.specs.Started.{Started, is_played_out, now_of}
+use Rattle.run_end.specs.Failures.{after_cycle, after_turn, has_stopped, nothing_failed}
+use Rattle.run_end.specs.Started.{Started}
+use Rattle.engine_core.specs.Now.{is_played_out, now_of}
 use Rattle.engine_core.specs.UnderWay.{IsUnderWay}
 use Rattle.engine_core.specs.Letters.{CyclesOn, EntersOn, GathersOn, TurnsOn}
 use Rattle.engine_core.proofs.EnterLemmas.{either}
@@ -47,19 +48,19 @@ never_with_master true r w e = false≢true e
 never_with_master false r w e = false≢true e
 
 -- where nothing has failed after a turn, nothing had before
-turn_fine : (answer : Result Turn ButlerFault) (f : Failed) → nothing_failed (after_turn answer f) ≡ true → nothing_failed f ≡ true
+turn_fine : (answer : Result Turn ButlerFault) (f : Failures) → nothing_failed (after_turn answer f) ≡ true → nothing_failed f ≡ true
 turn_fine (Ok turn) f fine = fine
 turn_fine (Err ReadFault) f fine = absurd (never_with_read f.input f.master f.write fine)
 turn_fine (Err WriteFault) f fine = absurd (never_with_write f.input f.master f.read fine)
 
 -- and so it is with a cycle
-cycle_fine : (answer : Result (Unit {0}) CycleFault) (f : Failed) → nothing_failed (after_cycle answer f) ≡ true → nothing_failed f ≡ true
+cycle_fine : (answer : Result (Unit {0}) CycleFault) (f : Failures) → nothing_failed (after_cycle answer f) ≡ true → nothing_failed f ≡ true
 cycle_fine (Ok x) f fine = fine
 cycle_fine (Err InputFault) f fine = absurd (false≢true fine)
 cycle_fine (Err MasterFault) f fine = absurd (never_with_master f.input f.read f.write fine)
 
 -- a turn stops no process
-turn_stops : (answer : Result Turn ButlerFault) (f : Failed) → has_stopped (after_turn answer f) ≡ has_stopped f
+turn_stops : (answer : Result Turn ButlerFault) (f : Failures) → has_stopped (after_turn answer f) ≡ has_stopped f
 turn_stops (Ok turn) f = refl
 turn_stops (Err ReadFault) f = refl
 turn_stops (Err WriteFault) f = refl

@@ -1,9 +1,7 @@
--- What is so of a run under way stands while its workers go on: counts of faults, what was received, and where master and input were cut off.
-use Rattle.std.proofs.Common.{◌≡◌, inl, inr, ℕ, suc, ◌≤◌, length, refl, sym, ap, subst, arith, ◌∙◌}
-use Rattle.std.specs.Prelude.{◌⊎◌, Bool, true, false, Ok, Err}
-use Rattle.std.proofs.lemmas.Bool.{true≢false}
+-- What is so of a run under way stands while its workers go on: what was received, and where master and input were cut off.
+use Rattle.std.proofs.Common.{◌≡◌, inl, inr, suc, length, refl, sym, ap, subst, ◌∙◌}
+use Rattle.std.specs.Prelude.{◌⊎◌, false}
 use Rattle.ses_io.specs.FixedList.{Listed}
-use Rattle.ses_io.specs.Faults.{risen, HasCause}
 use Rattle.ses_io.specs.Streams.{AppendsSome}
 use Rattle.ses_io.specs.Outside.{MediaOutside, SourceOutside, SinkOutside}
 use Rattle.piece_item.specs.declared.butler_ends.ButlerEnds.{ButlerEnds}
@@ -11,9 +9,9 @@ use Rattle.cycle_journal.specs.declared.entry.Entry.{Entry}
 use Rattle.input_blocks.specs.State.{IsReadTo, IsCutShort}
 use Rattle.master_blocks.specs.Bytes.{head_bytes}
 use Rattle.track_playback.specs.SpareBoxes.{received_items}
-use Rattle.process_cycle.specs.declared.ends.ProcessEnds.{ProcessEnds}
+use Rattle.process_ends.specs.declared.ends.ProcessEnds.{ProcessEnds}
 use Rattle.process_cycle.specs.Cycles.{next_bytes}
-use Rattle.process_cycle.specs.Ends.{AreOtherEnds, EndsMeet}
+use Rattle.process_ends.specs.Ends.{AreOtherEnds, EndsMeet}
 use Rattle.process_cycle.specs.ProcessState.{Playing, ProcessState, items_of}
 use Rattle.worker_pair.specs.Begun.{At, Begun, headed}
 use Rattle.worker_pair.specs.Runs.{Rests}
@@ -22,51 +20,23 @@ use Rattle.worker_pair.specs.declared.pair.Pair.{Pair}
 use Rattle.worker_pair.proofs.EntryLemmas.{same_maps}
 use Rattle.worker_pair.proofs.MetLemmas.{play_met}
 use Rattle.worker_pair.proofs.NowLemmas.{serves_as}
-use Rattle.engine_core.specs.declared.failed.Failed.{Failed}
+use Rattle.run_end.specs.declared.failures.Failures.{Failures}
+use Rattle.run_end.specs.Failures.{IsFaultCount}
+use Rattle.run_end.proofs.CountedLemmas.{counted_still}
 use Rattle.engine_core.specs.declared.run.Run.{Run}
-use Rattle.engine_core.specs.Failed.{IsCounted}
-use Rattle.engine_core.specs.Started.{Started, AreCounted}
-use Rattle.engine_core.specs.CutOff.{IsCutAtHead, IsCutInCycle}
+use Rattle.run_end.specs.Started.{Started}
+use Rattle.engine_core.specs.Now.{AreCounted}
+use Rattle.run_end.specs.CutOff.{IsCutAtHead, IsCutInCycle}
 use Rattle.engine_core.specs.UnderWay.{InputIsShort}
-
--- ---- counts of faults
-
--- a count that stands
-pub counted_still : (before was now : ℕ) (rose : Bool) → now ≡ was → IsCounted before was rose → IsCounted before now rose
-counted_still before was now rose same c = subst (λ n. IsCounted before n rose) (sym same) c
-
--- a count that rose
-pub counted_more : (before was now : ℕ) (rose : Bool) → was ≤ now → risen was ≤ now → IsCounted before was rose → IsCounted before now true
-counted_more before was now rose later more c = record {
-  later = omega (arith, c.later, later);
-  kept = λ e. absurd (true≢false e);
-  raised = λ e. omega (arith, c.later, more);
-}
-
--- nothing was counted yet
-pub counted_none : (before : ℕ) → IsCounted before before false
-counted_none before = record {
-  later = omega arith;
-  kept = λ e. refl;
-  raised = λ e. absurd (true≢false (sym e));
-}
-
--- where the call that counts was answered Ok,
-pub counted_ok : {T E : Type 0} (before was now : ℕ) (rose : Bool) (x : T) → HasCause {E = E} was now (Ok x) → IsCounted before was rose → IsCounted before now rose
-counted_ok before was now rose x cause c = counted_still before was now rose cause.kept c
-
--- and where it was answered a fault
-pub counted_err : {T E : Type 0} (before was now : ℕ) (rose : Bool) (e : E) → HasCause {T = T} was now (Err e) → IsCounted before was rose → IsCounted before now true
-counted_err before was now rose e cause c = counted_more before was now rose cause.later cause.rose c
 
 -- ---- what failed
 
 -- nothing failed yet
-abbrev pub none_failed : Failed
+abbrev pub none_failed : Failures
 none_failed = record { input = false; master = false; read = false; write = false }
 
 -- so it is where each is false
-pub none_is : (f : Failed) → f.input ≡ false → f.master ≡ false → f.read ≡ false → f.write ≡ false → f ≡ none_failed
+pub none_is : (f : Failures) → f.input ≡ false → f.master ≡ false → f.read ≡ false → f.write ≡ false → f ≡ none_failed
 none_is f i m r w = ap (λ x. record f { input = x }) i ∙ ap (λ x. record f { input = false; master = x }) m ∙ ap (λ x. record { input = false; master = false; read = x; write = f.write }) r
     ∙ ap (λ x. record { input = false; master = false; read = false; write = x }) w
 
@@ -124,13 +94,13 @@ module _ {V I W : Type 0} where
       q.pair.butler.media ≡ r.pair.butler.media → q.pair.butler.read_failed ≡ r.pair.butler.read_failed → q.pair.butler.write_failed ≡ r.pair.butler.write_failed →
       q.pair.process.input.input ≡ r.pair.process.input.input → q.pair.process.master.sink ≡ r.pair.process.master.sink → AreCounted media inputs sinks on r → AreCounted media inputs sinks on q
   counts_stand media inputs sinks on r q failed butler read write input sink c = record {
-    reads = subst (λ f. IsCounted (media.read_faults on.media) (media.read_faults q.pair.butler.media) f.read) (sym failed)
+    reads = subst (λ f. IsFaultCount (media.read_faults on.media) (media.read_faults q.pair.butler.media) f.read) (sym failed)
         (counted_still (media.read_faults on.media) (media.read_faults r.pair.butler.media) (media.read_faults q.pair.butler.media) r.failed.read (ap media.read_faults butler) c.reads);
-    writes = subst (λ f. IsCounted (media.write_faults on.media) (media.write_faults q.pair.butler.media) f.write) (sym failed)
+    writes = subst (λ f. IsFaultCount (media.write_faults on.media) (media.write_faults q.pair.butler.media) f.write) (sym failed)
         (counted_still (media.write_faults on.media) (media.write_faults r.pair.butler.media) (media.write_faults q.pair.butler.media) r.failed.write (ap media.write_faults butler) c.writes);
-    inputs_are = subst (λ f. IsCounted (inputs.faults on.input) (inputs.faults q.pair.process.input.input) f.input) (sym failed)
+    inputs_are = subst (λ f. IsFaultCount (inputs.faults on.input) (inputs.faults q.pair.process.input.input) f.input) (sym failed)
         (counted_still (inputs.faults on.input) (inputs.faults r.pair.process.input.input) (inputs.faults q.pair.process.input.input) r.failed.input (ap inputs.faults input) c.inputs_are);
-    masters = subst (λ f. IsCounted (sinks.faults on.master) (sinks.faults q.pair.process.master.sink) f.master) (sym failed)
+    masters = subst (λ f. IsFaultCount (sinks.faults on.master) (sinks.faults q.pair.process.master.sink) f.master) (sym failed)
         (counted_still (sinks.faults on.master) (sinks.faults r.pair.process.master.sink) (sinks.faults q.pair.process.master.sink) r.failed.master (ap sinks.faults sink) c.masters);
     butler_reads = read ∙ c.butler_reads ∙ sym (ap (λ f. f.read) failed);
     butler_writes = write ∙ c.butler_writes ∙ sym (ap (λ f. f.write) failed);

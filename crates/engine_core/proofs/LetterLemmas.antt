@@ -18,7 +18,7 @@ use Rattle.control_letter.specs.Letter.{IsLetter}
 use Rattle.control_letter.proofs.WholeLemmas.{the_letter_is_done}
 use Rattle.worker_pair.specs.Never.{starts_recording}
 use Rattle.engine_core.specs.declared.run.Run.{Run}
-use Rattle.engine_core.specs.Started.{Started}
+use Rattle.run_end.specs.Started.{Started}
 use Rattle.engine_core.specs.UnderWay.{IsUnderWay}
 use Rattle.engine_core.specs.Carrying.{MayCarry}
 use Rattle.engine_core.specs.Shows.{edits_of}

@@ -1,5 +1,4 @@
 -- Why a run on one thread does what it says.
-pub mod DepthLemmas
 pub mod KeepLemmas
 pub mod TurnLemmas
 pub mod MasterLemmas
@@ -14,16 +13,8 @@ pub mod LawfulLemmas
 pub mod GrowLemmas
 pub mod GoingLemmas
 pub mod EventLemmas
-pub mod LastTurnLemmas
 pub mod DrainLemmas
 pub mod CloseLemmas
-pub mod JoinLemmas
-pub mod PassLemmas
-pub mod TakeLemmas
-pub mod BackLemmas
-pub mod HeardLemmas
-pub mod PartLemmas
-pub mod CountLemmas
 pub mod EndLemmas
 pub mod PhaseLemmas
 pub mod LessLemmas
@@ -44,8 +35,6 @@ pub mod LastLemmas
 pub mod AnswerLemmas
 pub mod LinesLemmas
 pub mod SeriallyLemmas
-pub mod ReceivedLemmas
-pub mod CutLemmas
+pub mod InputLemmas
 pub mod MasteredLemmas
-pub mod FrontLemmas
 pub mod RunLemmas

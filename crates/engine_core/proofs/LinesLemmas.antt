@@ -35,10 +35,10 @@ use Rattle.serial_laws.specs.Standing.{Standing, machine_of}
 use Rattle.serial_laws.proofs.AnsweredLemmas.{all_is_answered_at_the_end}
 use Rattle.serial_laws.proofs.RestLemmas.{the_run_is_the_machines}
 use Rattle.serial_laws.proofs.TruthLemmas.{answers_hold_on, what_holds_is_true}
-use Rattle.engine_core.specs.declared.failed.Failed.{Failed}
+use Rattle.run_end.specs.declared.failures.Failures.{Failures}
 use Rattle.engine_core.specs.declared.run.Run.{Run}
-use Rattle.engine_core.specs.Failed.{nothing_failed}
-use Rattle.engine_core.specs.Started.{is_played_out}
+use Rattle.run_end.specs.Failures.{nothing_failed}
+use Rattle.engine_core.specs.Now.{is_played_out}
 use Rattle.engine_core.specs.Events.{Course}
 use Rattle.engine_core.specs.Going.{Follows}
 use Rattle.engine_core.specs.Opening.{InRest}
@@ -83,17 +83,17 @@ module _ {C O : Type 0} (source : SourceOutside C) (sink : SinkOutside O) (from 
 -- ---- what has failed
 
 -- it is none or some of these
-none_of : (f : Failed) → f.input ≡ false → f.master ≡ false → f.read ≡ false → f.write ≡ false → nothing_failed f ≡ true
+none_of : (f : Failures) → f.input ≡ false → f.master ≡ false → f.read ≡ false → f.write ≡ false → nothing_failed f ≡ true
 none_of f input master read write = not_from_false (f.input || f.master || f.read || f.write)
     (or_from (f.input || f.master || f.read) f.write (or_from (f.input || f.master) f.read (or_from f.input f.master input master) read) write)
 
-pub record NoneFailed (f : Failed) : Type 0 where
+pub record NoneFailed (f : Failures) : Type 0 where
   pub input : f.input ≡ false
   pub master : f.master ≡ false
   pub read : f.read ≡ false
   pub write : f.write ≡ false
 
-pub none_failed : (f : Failed) → nothing_failed f ≡ true → NoneFailed f
+pub none_failed : (f : Failures) → nothing_failed f ≡ true → NoneFailed f
 none_failed f fine = let three = or_parts (f.input || f.master || f.read) f.write (not_so (f.input || f.master || f.read || f.write) fine) in let two = or_parts (f.input || f.master) f.read three.0 in
     let one = or_parts f.input f.master two.0 in record { input = one.0; master = one.1; read = two.1; write = three.1 }
   where
@@ -167,7 +167,7 @@ module _ {M I C W O : Type 0} (media : MediaOutside M) (inputs : SourceOutside I
       subst (λ j. list_all (is_acknowledged acks j) all_replies ≡ true) (ap reverse (sym made_are) ∙ reverse-reverse (seen_entries x.ended.journal.items))
       (all_turned (is_acknowledged acks (reverse (made_of run))) x.going.replies
       (what_holds_is_true (is_played_out run) (made_of run) acks x.going.replies
-      (subst (λ es. AreOfEntries es acks) made_are (told_of_entries x.ended.edits.items s.depth (reverse (seen_entries x.ended.journal.items)) acks (reverse x.ended.acks.heads) x.acks.told)) x.going.said.holds))
+      (subst (λ es. AreOfEntries es acks) made_are (told_of_entries x.ended.edits.items s.depth (reverse (seen_entries x.ended.journal.items)) acks (reverse x.ended.acks.heads) x.rings.acks_are.told)) x.going.said.holds))
 
   -- ---- the core machine
 

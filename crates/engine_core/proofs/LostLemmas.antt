@@ -24,19 +24,20 @@ use Rattle.butler.specs.declared.faults.ButlerFault.TheVariants.{ReadFault, Writ
 use Rattle.process_cycle.specs.declared.fault.CycleFault.{CycleFault}
 use Rattle.process_cycle.specs.declared.fault.CycleFault.TheVariants.{InputFault, MasterFault}
 use Rattle.process_cycle.specs.Captured.{AreCaptured}
-use Rattle.process_cycle.specs.Ends.{AllMeet}
+use Rattle.process_ends.specs.Ends.{AllMeet}
 use Rattle.process_cycle.specs.ProcessState.{ProcessState, entries_of}
 use Rattle.worker_pair.specs.declared.pair.Pair.{Pair}
 use Rattle.worker_pair.specs.Plays.{Cycles, Looks}
 use Rattle.worker_pair.specs.Tied.{rings_of}
 use Rattle.worker_pair.proofs.MetLemmas.{take_met}
 use Rattle.worker_pair.proofs.TurnLemmas.{others_turned}
-use Rattle.engine_core.specs.declared.failed.Failed.{Failed}
+use Rattle.run_end.specs.declared.failures.Failures.{Failures}
 use Rattle.engine_core.specs.declared.run.Run.{Run}
-use Rattle.engine_core.specs.Failed.{after_cycle, after_turn}
+use Rattle.run_end.specs.Failures.{after_cycle, after_turn}
 use Rattle.engine_core.specs.Letters.{CyclesOn, EntersOn, GathersOn, MakesCycle, TurnsOn}
 use Rattle.engine_core.specs.Lost.{CapturesStand, IsFlushed, LosesNone, NoneIsLost, captures_of}
-use Rattle.engine_core.specs.Started.{Started, now_of}
+use Rattle.run_end.specs.Started.{Started}
+use Rattle.engine_core.specs.Now.{now_of}
 use Rattle.engine_core.specs.UnderWay.{IsUnderWay}
 use Rattle.engine_core.proofs.EnterLemmas.{either}
 use Rattle.engine_core.proofs.ServeLemmas.{enters_none, workers_stand}
@@ -45,12 +46,12 @@ use Rattle.engine_core.proofs.SerialCycleLemmas.{many_made}
 -- ---- what has failed
 
 -- a turn and a cycle leave a failed write failed
-write_turned : (answer : Result Turn ButlerFault) (f : Failed) → (after_turn answer f).write ≡ false → f.write ≡ false
+write_turned : (answer : Result Turn ButlerFault) (f : Failures) → (after_turn answer f).write ≡ false → f.write ≡ false
 write_turned (Ok turn) f fine = fine
 write_turned (Err ReadFault) f fine = fine
 write_turned (Err WriteFault) f fine = absurd (true≢false fine)
 
-write_cycled : (answer : Result (Unit {0}) CycleFault) (f : Failed) → (after_cycle answer f).write ≡ f.write
+write_cycled : (answer : Result (Unit {0}) CycleFault) (f : Failures) → (after_cycle answer f).write ≡ f.write
 write_cycled (Ok x) f = refl
 write_cycled (Err InputFault) f = refl
 write_cycled (Err MasterFault) f = refl
@@ -86,11 +87,11 @@ module _ {V I W : Type 0} where
   captures_turned media inputs sinks on old new idle is turned = let others = others_turned media (now_of on old) (rings_of old.pair) turned.answer turned.turns.butler is.rests.serves turned.turns.turn in record {
     many = turned.turns.met.takes.senders;
     each = take_met old.pair.process.ends new.pair.process.ends turned.turns.butler.ends new.pair.butler.ends others turned.turns.met;
-    write_still = λ fine. write_turned turned.answer old.failed (sym (ap (λ (f : Failed). f.write) turned.failed) ∙ fine);
+    write_still = λ fine. write_turned turned.answer old.failed (sym (ap (λ (f : Failures). f.write) turned.failed) ∙ fine);
   }
 
   pub captures_entered : (old new : Run V I W) → EntersOn old new → CapturesStand old new
-  captures_entered old new enters = captures_same old new (ap (λ (z : ProcessState I W). z.ends.takes.items) (workers_stand old new enters).0) (ap (λ (f : Failed). f.write) enters.failed)
+  captures_entered old new enters = captures_same old new (ap (λ (z : ProcessState I W). z.ends.takes.items) (workers_stand old new enters).0) (ap (λ (f : Failures). f.write) enters.failed)
 
   -- ---- a look of a run in its cycle
 
@@ -124,7 +125,7 @@ module _ {V I W : Type 0} where
     | inl opens ↦ record {
       many = many_looked gathers.entered.pair new.pair many (gathers.looks opens);
       each = look_told gathers.entered.pair new.pair many (gathers.looks opens);
-      write_still = λ fine. ap (λ (f : Failed). f.write) (gathers.enters.failed ∙ sym gathers.failed) ∙ fine;
+      write_still = λ fine. ap (λ (f : Failures). f.write) (gathers.enters.failed ∙ sym gathers.failed) ∙ fine;
     }
   ])
     where
@@ -194,7 +195,7 @@ module _ {V I W : Type 0} (media : MediaOutside V) (inputs : SourceOutside I) (s
   many_now = looked.met.ends.takes.receivers ∙ many ∙ sym (many_looked served.pair g.pair many looked)
 
   write_before : new.failed.write ≡ false → served.failed.write ≡ false
-  write_before fine = ap (λ (f : Failed). f.write) (sym cycles.gathers.failed) ∙ sym (write_cycled makes.answer g.failed) ∙ sym (ap (λ (f : Failed). f.write) makes.failed) ∙ fine
+  write_before fine = ap (λ (f : Failures). f.write) (sym cycles.gathers.failed) ∙ sym (write_cycled makes.answer g.failed) ∙ sym (ap (λ (f : Failures). f.write) makes.failed) ∙ fine
 
   -- each ring is open, and all of it was received
   record IsEmptied (t : ℕ) (d : Sender TakeBlock) : Type 0 where

@@ -19,15 +19,17 @@ use Rattle.worker_pair.specs.Begun.{at_first, headed, playing_at}
 use Rattle.worker_pair.specs.Plays.{OnlyTheMaster}
 use Rattle.worker_pair.specs.Runs.{HearsInput, Rests, Runs, at_now}
 use Rattle.worker_pair.proofs.NowLemmas.{now_rests, now_runs}
-use Rattle.engine_core.specs.declared.failed.Failed.{Failed}
+use Rattle.run_end.specs.declared.failures.Failures.{Failures}
 use Rattle.engine_core.specs.declared.run.Run.{Run}
-use Rattle.engine_core.specs.Failed.{IsCounted, after_cycle}
-use Rattle.engine_core.specs.Started.{Started, AreCounted, now_of}
-use Rattle.engine_core.specs.Depths.{HaveDepths}
-use Rattle.engine_core.specs.CutOff.{HoldsAll, IsCutAtHead, IsCutAtEnd}
+use Rattle.run_end.specs.Failures.{IsFaultCount, after_cycle}
+use Rattle.run_end.specs.Started.{Started}
+use Rattle.engine_core.specs.Now.{AreCounted, now_of}
+use Rattle.run_end.specs.Depths.{HaveDepths}
+use Rattle.run_end.specs.CutOff.{HoldsAll, IsCutAtHead, IsCutAtEnd}
 use Rattle.engine_core.specs.UnderWay.{InputIsShort, IsFresh, IsInputOf, IsUnderWay, IsWritten}
-use Rattle.engine_core.proofs.DepthLemmas.{depths_played}
-use Rattle.engine_core.proofs.KeepLemmas.{counted_still, counted_none, counted_ok, counted_err, none_failed, none_is, rests_headed, short_stands}
+use Rattle.run_end.proofs.DepthLemmas.{depths_played}
+use Rattle.run_end.proofs.CountedLemmas.{counted_still, counted_none, counted_ok, counted_err}
+use Rattle.engine_core.proofs.KeepLemmas.{none_failed, none_is, rests_headed, short_stands}
 
 -- it was no fault of the input
 not_input : InputFault ≡ MasterFault → ⊥
@@ -38,22 +40,22 @@ not_input e = cc
 module _ {V I W : Type 0} (media : MediaOutside V) (inputs : SourceOutside I) (sinks : SinkOutside W) (on : Started V I W) (p q : Pair V I W) (fresh : IsFresh media inputs sinks on p)
     (rests : Rests media (at_first on.begun) q) (same : OnlyTheMaster p q) where
   -- no read of the media was counted,
-  reads_none : IsCounted (media.read_faults on.media) (media.read_faults q.butler.media) false
+  reads_none : IsFaultCount (media.read_faults on.media) (media.read_faults q.butler.media) false
   reads_none = counted_still (media.read_faults on.media) (media.read_faults on.media) (media.read_faults q.butler.media) false
       (ap (λ (z : Pair V I W). media.read_faults z.butler.media) same ∙ ap media.read_faults fresh.media_is) (counted_none (media.read_faults on.media))
 
   -- no write of it,
-  writes_none : IsCounted (media.write_faults on.media) (media.write_faults q.butler.media) false
+  writes_none : IsFaultCount (media.write_faults on.media) (media.write_faults q.butler.media) false
   writes_none = counted_still (media.write_faults on.media) (media.write_faults on.media) (media.write_faults q.butler.media) false
       (ap (λ (z : Pair V I W). media.write_faults z.butler.media) same ∙ ap media.write_faults fresh.media_is) (counted_none (media.write_faults on.media))
 
   -- no read of the input,
-  inputs_none : IsCounted (inputs.faults on.input) (inputs.faults q.process.input.input) false
+  inputs_none : IsFaultCount (inputs.faults on.input) (inputs.faults q.process.input.input) false
   inputs_none = counted_still (inputs.faults on.input) (inputs.faults on.input) (inputs.faults q.process.input.input) false
       (ap (λ (z : Pair V I W). inputs.faults z.process.input.input) same ∙ ap inputs.faults fresh.input_is) (counted_none (inputs.faults on.input))
 
   -- and, before the header, no write of the master
-  master_none : IsCounted (sinks.faults on.master) (sinks.faults p.process.master.sink) false
+  master_none : IsFaultCount (sinks.faults on.master) (sinks.faults p.process.master.sink) false
   master_none = counted_still (sinks.faults on.master) (sinks.faults on.master) (sinks.faults p.process.master.sink) false (ap sinks.faults fresh.master_is) (counted_none (sinks.faults on.master))
 
   -- the butler knows of no failed read,
@@ -146,7 +148,7 @@ module _ {V I W : Type 0} (media : MediaOutside V) (inputs : SourceOutside I) (s
   }
 
   -- whatever the flags were made of
-  pub run_begun : (answer : Result (Unit {0}) CycleFault) (none f : Failed) → none.input ≡ false → none.master ≡ false → none.read ≡ false → none.write ≡ false → f ≡ after_cycle answer none →
+  pub run_begun : (answer : Result (Unit {0}) CycleFault) (none f : Failures) → none.input ≡ false → none.master ≡ false → none.read ≡ false → none.write ≡ false → f ≡ after_cycle answer none →
       OnOk answer (Runs media inputs sinks (headed (at_first on.begun)) q) → Writes sinks (head_bytes on.begun.session p.process.journal.room) p.process.master.sink q.process.master.sink answer →
       IfErr answer (λ why. why ≡ MasterFault) → IsUnderWay media inputs sinks on (record { pair = q; failed = f })
   run_begun answer none f i m r w is runs writes fault = subst (λ z. IsUnderWay media inputs sinks on (record { pair = q; failed = z })) (sym (is ∙ ap (after_cycle answer) (none_is none i m r w)))
@@ -186,7 +188,7 @@ module _ {V I W : Type 0} (media : MediaOutside V) (inputs : SourceOutside I) (s
 
   module _ (q : Pair V I W) (fine : old.failed.master ≡ false) (rests : Rests media (now_of on old) q) (same : OnlyTheMaster old.pair q) where
     -- what the calls of the outside counted
-    counts_now : (m : Bool) → IsCounted (sinks.faults on.master) (sinks.faults q.process.master.sink) m → AreCounted media inputs sinks on (record { pair = q; failed = record old.failed { master = m } })
+    counts_now : (m : Bool) → IsFaultCount (sinks.faults on.master) (sinks.faults q.process.master.sink) m → AreCounted media inputs sinks on (record { pair = q; failed = record old.failed { master = m } })
     counts_now m masters = record {
       reads = counted_still (media.read_faults on.media) (media.read_faults old.pair.butler.media) (media.read_faults q.butler.media) old.failed.read
           (ap (λ (z : Pair V I W). media.read_faults z.butler.media) same) under.counts.reads;
@@ -247,7 +249,7 @@ module _ {V I W : Type 0} (media : MediaOutside V) (inputs : SourceOutside I) (s
     }
 
     -- whatever the flags were made of
-    pub run_ended : (answer : Result (Unit {0}) CycleFault) (f : Failed) → f ≡ after_cycle answer old.failed → Writes sinks (end_bytes on.begun.session old.pair.process.journal.room
+    pub run_ended : (answer : Result (Unit {0}) CycleFault) (f : Failures) → f ≡ after_cycle answer old.failed → Writes sinks (end_bytes on.begun.session old.pair.process.journal.room
         (length old.pair.process.journal.items)) old.pair.process.master.sink q.process.master.sink answer → IfErr answer (λ why. why ≡ MasterFault) →
         IsWritten media inputs sinks on old (record { pair = q; failed = f })
     run_ended answer f is writes fault = subst (λ z. IsWritten media inputs sinks on old (record { pair = q; failed = z })) (sym is) (ended answer writes fault)

@@ -1,36 +1,37 @@
--- What the master of a run that was played holds, where no write of it failed, and how many cycles were made.
-use Rattle.std.proofs.Common.{◌≡◌, ℕ, zero, suc, ◌+◌, ◌-◌, ◌≤◌, List, ◌++◌, length, refl, sym, ap, subst, ◌∙◌, arith}
-use Rattle.std.specs.Prelude.{Bool, true, false, ◌||◌, if◌then◌else◌, nat_le, drop}
-use Rattle.std.specs.List.{flat_map}
+-- How many cycles a run that was played has made, and what its master holds.
+use Rattle.std.proofs.Common.{◌≡◌, inl, inr, ℕ, zero, suc, ◌+◌, ◌-◌, ◌≤◌, List, ◌++◌, length, refl, sym, ap, subst, ◌∙◌, arith}
+use Rattle.std.specs.Prelude.{◌⊎◌, Bool, true, false, ◌||◌, if◌then◌else◌, nat_le, drop}
 use Rattle.std.proofs.lemmas.Bool.{leb-true, true≢false}
-use Rattle.std.proofs.lemmas.List.{append_assoc, length-append, length-map, take-append-drop}
+use Rattle.std.proofs.lemmas.List.{length-append, length-map, take-append-drop}
 use Rattle.ses_io.specs.FixedList.{Listed}
 use Rattle.ses_io.specs.Outside.{MediaOutside, SourceOutside, SinkOutside}
-use Rattle.sound_model.specs.Regions.{Sounds}
 use Rattle.session_model.specs.declared.session.Session.{Session}
 use Rattle.session_model.specs.declared.edit.Edit.{Edit}
 use Rattle.session_model.specs.Valid.{IsValid}
 use Rattle.engine_model.specs.Edits.{has_quit, holds_at, is_quit}
-use Rattle.engine_model.specs.Journal as engine
-use Rattle.engine_model.specs.Played.{Samples, master_file, samples_of}
+use Rattle.engine_model.specs.Played.{master_file, samples_of}
 use Rattle.edition_log.proofs.PlayLaws.{editions_play_their_places}
+use Rattle.audio_source.specs.Opened.{OpenedSource}
 use Rattle.audio_source.specs.Told.{source_sound}
 use Rattle.cycle_journal.specs.declared.entry.Entry.{Entry}
 use Rattle.cycle_journal.specs.JournalView.{seen_entries, seen_entry}
-use Rattle.master_blocks.specs.Bytes.{end_bytes, entry_bytes, head_bytes}
 use Rattle.master_blocks.specs.Laws.{TheMasterIsItsBlocks}
-use Rattle.process_cycle.specs.ProcessState.{items_of}
-use Rattle.process_cycle.specs.Promised.{AllOfTrack}
+use Rattle.process_cycle.specs.ProcessState.{ProcessState}
 use Rattle.run_world.specs.declared.finished.Finished.{Finished}
 use Rattle.worker_pair.specs.declared.pair.Pair.{Pair}
+use Rattle.worker_pair.specs.Begun.{At, playing_at}
+use Rattle.worker_pair.specs.Runs.{Rests}
+use Rattle.worker_pair.specs.Tied.{rings_of}
 use Rattle.worker_pair.proofs.LongerLemmas.{quit_longer}
+use Rattle.run_end.specs.CutOff.{IsCutAtEnd, IsCutAtHead, IsCutInCycle}
+use Rattle.run_end.specs.Failures.{has_stopped}
+use Rattle.run_end.specs.Mastered.{IsCutOff}
+use Rattle.run_end.proofs.MasteredLemmas as end
 use Rattle.engine_core.specs.declared.run.Run.{Run}
-use Rattle.engine_core.specs.Failed.{has_stopped}
-use Rattle.engine_core.specs.Started.{now_of}
 use Rattle.engine_core.specs.Events.{Course}
-use Rattle.engine_core.specs.Shows.{edits_of}
+use Rattle.engine_core.specs.Now.{now_of}
 use Rattle.engine_core.specs.Played.{IsPlayed}
-use Rattle.engine_core.proofs.ReceivedLemmas.{of_tracks}
+use Rattle.engine_core.specs.Shows.{edits_of}
 
 -- ---- quits
 
@@ -47,6 +48,18 @@ quit_later edits k (suc more) n is quit = let same : n ≡ suc (more + k) = omeg
 -- and among all
 pub quit_of_all : (edits : List Edit) (k : ℕ) → k ≤ length edits → has_quit edits k ≡ true → has_quit edits (length edits) ≡ true
 quit_of_all edits k within quit = quit_later edits k (length edits - k) (length edits) (omega (arith, within)) quit
+
+-- ---- what is left
+
+-- what a run leaves of which the master is made
+record Left : Type 0 where
+  pub edits : List Edit
+  pub opened : List OpenedSource
+  pub room : ℕ
+  pub journal : List Entry
+
+abbrev left_of : List Edit → List OpenedSource → ℕ → List Entry → Left
+left_of edits opened room journal = record { edits = edits; opened = opened; room = room; journal = journal }
 
 module _ {M I C W O : Type 0} (media : MediaOutside M) (inputs : SourceOutside I) (source : SourceOutside C) (sinks : SinkOutside W) (sink : SinkOutside O) (on : Course M I C W O) (f : Finished M I C W O)
     (x : IsPlayed media inputs source sinks sink on f) where
@@ -96,77 +109,76 @@ module _ {M I C W O : Type 0} (media : MediaOutside M) (inputs : SourceOutside I
 
   -- ---- the master
 
-  module _ (tells : media.tells) (told : sinks.tells) (fine : x.ended.failed.master ≡ false) (valid : IsValid s) (the_master_is_its_blocks : TheMasterIsItsBlocks) where
-    abbrev edits : List Edit
-    edits = written.pair.edition.edits
+  module _ (tells : media.tells) (told : sinks.tells) where
+    abbrev at : At
+    at = now_of on.opening.started written
 
-    abbrev sounds : Sounds
-    sounds = source_sound on.opening.started.begun.files written.pair.butler.sources.opened
+    abbrev rests : Rests media at written.pair
+    rests = x.written.is_written.rests
 
-    -- it holds header, blocks and end, by all edits
-    holds : sinks.held written.pair.process.master.sink ≡ on.opening.started.begun.before ++ head_bytes s written.pair.process.journal.room
-        ++ flat_map (entry_bytes s edits (samples_of sounds s edits)) (seen_entries written.pair.process.journal.items)
-        ++ end_bytes s written.pair.process.journal.room (length written.pair.process.journal.items)
-    holds = let p = written.pair in let more = drop p.process.entered edits in
-        subst (λ es. AllOfTrack s es (samples_of sounds s es) (items_of p.process) → sinks.held p.process.master.sink ≡ on.opening.started.begun.before ++ head_bytes s p.process.journal.room
-        ++ flat_map (entry_bytes s es (samples_of sounds s es)) (seen_entries p.process.journal.items) ++ end_bytes s p.process.journal.room (length p.process.journal.items))
-        (take-append-drop p.process.entered edits) (x.written.is_written.whole (sym x.written.master_failed ∙ fine) told more sounds)
-        (of_tracks media (now_of on.opening.started written) p x.written.is_written.rests.serves tells)
+    -- the edits that came since the process looked last
+    abbrev since : List Edit
+    since = drop written.pair.process.entered written.pair.edition.edits
 
-    -- the run whose master was ended has the same journal, edits and sources
-    same_journal : written.pair.process.journal ≡ run.pair.process.journal
-    same_journal = ap (λ (p : Pair M I W). p.process.journal) x.written.is_written.only
+    whole : at.played ++ since ≡ written.pair.edition.edits
+    whole = take-append-drop written.pair.process.entered written.pair.edition.edits
 
-    same_edits : edits ≡ edits_of run
-    same_edits = ap (λ (p : Pair M I W). p.edition.edits) x.written.is_written.only
+    journal_path : written.pair.process.journal ≡ x.ended.journal
+    journal_path = ap (λ (p : Pair M I W). p.process.journal) x.written.is_written.only ∙ sym x.written.journal
 
-    same_opened : written.pair.butler.sources.opened ≡ on.opening.started.opened
-    same_opened = ap (λ (p : Pair M I W). p.butler.sources.opened) x.written.is_written.only ∙ x.going.may.under_way.opened
+    edits_path : at.played ++ since ≡ x.ended.edits.items
+    edits_path = whole ∙ ap (λ (p : Pair M I W). p.edition.edits) x.written.is_written.only ∙ sym x.written.edits
 
-    -- **and that is its file**
-    pub master_is : sinks.held x.ended.master ≡ on.opening.started.begun.before
+    opened_path : written.pair.butler.sources.opened ≡ on.opening.started.opened
+    opened_path = ap (λ (p : Pair M I W). p.butler.sources.opened) x.written.is_written.only ∙ x.going.may.under_way.opened
+
+    pub room_path : written.pair.process.journal.room ≡ on.opening.cycles
+    room_path = ap (λ (j : Listed Entry). j.room) journal_path ∙ room_is
+
+    -- **it is its file where no write of it failed**
+    pub master_is : x.ended.failed.master ≡ false → IsValid s → TheMasterIsItsBlocks → sinks.held x.ended.master ≡ on.opening.started.begun.before
         ++ master_file s x.ended.edits.items (samples_of (source_sound on.opening.started.begun.files on.opening.started.opened) s x.ended.edits.items) on.opening.cycles (seen_entries x.ended.journal.items)
-    master_is = ap sinks.held x.written.master ∙ holds ∙ ap (λ l. l ++ ends) (append_assoc on.opening.started.begun.before head blocks) ∙ append_assoc on.opening.started.begun.before (head ++ blocks) ends
-        ∙ ap (λ l. on.opening.started.begun.before ++ l) (file ∙ same)
+    master_is fine valid law = ap sinks.held x.written.master
+        ∙ end.is_whole media inputs sinks at (rings_of written.pair) rests.serves written.pair.process refl since whole tells told law valid few (x.written.is_written.whole (sym x.written.master_failed ∙ fine) told)
+        ∙ (λ i. on.opening.started.begun.before ++ master_file s (edits_path i) (samples_of (source_sound on.opening.started.begun.files (opened_path i)) s (edits_path i)) (room_path i) (seen_entries (journal_path i).items))
       where
-        head : List ℕ
-        head = head_bytes s written.pair.process.journal.room
+        few : length written.pair.process.journal.items ≤ written.pair.process.journal.room
+        few = omega (arith, ap (λ (j : Listed Entry). length j.items) journal_path, ap (λ (j : Listed Entry). j.room) journal_path, x.few)
 
-        blocks : List ℕ
-        blocks = flat_map (entry_bytes s edits (samples_of sounds s edits)) (seen_entries written.pair.process.journal.items)
+    -- ---- where a write of it failed
 
-        ends : List ℕ
-        ends = end_bytes s written.pair.process.journal.room (length written.pair.process.journal.items)
+    module _ (bad : x.ended.failed.master ≡ true) where
+      abbrev p : ProcessState I W
+      p = written.pair.process
 
-        journal : List engine.Entry
-        journal = seen_entries written.pair.process.journal.items
+      abbrev CutOff : Type 0
+      CutOff = IsCutOff x.ended.failed.input at.begun.before (sinks.held p.master.sink) s (at.played ++ since) (samples_of (source_sound at.begun.files written.pair.butler.sources.opened) s (at.played ++ since))
+          p.journal.room (seen_entries p.journal.items)
 
-        samples : Samples
-        samples = samples_of sounds s edits
+      by_cut : IsCutAtHead inputs sinks on.opening.started.begun p ⊎ IsCutInCycle inputs sinks (playing_at at) p → CutOff
+      by_cut = end.cut_before media inputs sinks at (rings_of written.pair) rests.serves p refl since whole tells told x.ended.failed.input
 
-        few : length journal ≤ written.pair.process.journal.room
-        few = omega (
-          arith,
-          length-map written.pair.process.journal.items seen_entry,
-          ap (λ (j : Listed Entry). length j.items) (same_journal ∙ sym x.written.journal),
-          ap (λ (j : Listed Entry). j.room) (same_journal ∙ sym x.written.journal),
-          x.few,
-        )
+      -- the write of the end failed, and none before it: then all cycles were made
+      by_end : run.failed.master ≡ false → IsCutAtEnd sinks (playing_at at) p → CutOff
+      by_end fine = end.cut_at_end media inputs sinks at (rings_of written.pair) rests.serves p refl since whole tells told x.ended.failed.input
+          (λ unquit heard_all. ap (λ (j : Listed Entry). length (seen_entries j.items)) journal_path
+          ∙ all_made (subst (λ es. has_quit es (length es) ≡ false) (whole ∙ ap (λ (z : Pair M I W). z.edition.edits) x.written.is_written.only) unquit)
+          (ap (λ b. b || run.failed.master) (sym x.written.input_failed ∙ heard_all) ∙ fine) ∙ sym room_path)
 
-        file : head_bytes s written.pair.process.journal.room ++ flat_map (entry_bytes s edits samples) journal ++ end_bytes s written.pair.process.journal.room (length written.pair.process.journal.items)
-            ≡ master_file s edits samples written.pair.process.journal.room journal
-        file = ap (λ n. head_bytes s written.pair.process.journal.room ++ flat_map (entry_bytes s edits samples) journal ++ end_bytes s written.pair.process.journal.room n)
-            (sym (length-map written.pair.process.journal.items seen_entry)) ∙ sym (the_master_is_its_blocks s edits samples written.pair.process.journal.room journal valid few)
+      -- one failed before the end was to be written, or that of the end did
+      by_before : (b : Bool) → run.failed.master ≡ b → CutOff
+      by_before true failed = by_cut (subst (λ (r : Run M I W). IsCutAtHead inputs sinks on.opening.started.begun r.pair.process ⊎ IsCutInCycle inputs sinks (playing_at (now_of on.opening.started r)) r.pair.process)
+          (sym (x.written.is_written.stays failed)) (x.going.may.under_way.cut failed))
+      by_before false fine = by (x.written.is_written.cut (sym x.written.master_failed ∙ bad))
+        where
+          by : (IsCutAtHead inputs sinks on.opening.started.begun p ⊎ IsCutInCycle inputs sinks (playing_at at) p) ⊎ IsCutAtEnd sinks (playing_at at) p → CutOff
+          by (inl c) = by_cut c
+          by (inr c) = by_end fine c
 
-        same : master_file s edits samples written.pair.process.journal.room journal
-            ≡ master_file s x.ended.edits.items (samples_of (source_sound on.opening.started.begun.files on.opening.started.opened) s x.ended.edits.items) on.opening.cycles (seen_entries x.ended.journal.items)
-        same = (λ i. master_file s (edits_path i) (samples_of (source_sound on.opening.started.begun.files (same_opened i)) s (edits_path i)) (room_path i) (seen_entries (journal_path i).items))
-          where
-            edits_path : edits ≡ x.ended.edits.items
-            edits_path = same_edits ∙ sym x.written.edits
-
-            journal_path : written.pair.process.journal ≡ x.ended.journal
-            journal_path = same_journal ∙ sym x.written.journal
-
-            room_path : written.pair.process.journal.room ≡ on.opening.cycles
-            room_path = ap (λ (j : Listed Entry). j.room) journal_path ∙ room_is
+      -- **it is cut off**
+      pub is_cut_off : IsCutOff x.ended.failed.input on.opening.started.begun.before (sinks.held x.ended.master) s x.ended.edits.items
+          (samples_of (source_sound on.opening.started.begun.files on.opening.started.opened) s x.ended.edits.items) on.opening.cycles (seen_entries x.ended.journal.items)
+      is_cut_off = subst (λ now. IsCutOff x.ended.failed.input on.opening.started.begun.before now s x.ended.edits.items
+          (samples_of (source_sound on.opening.started.begun.files on.opening.started.opened) s x.ended.edits.items) on.opening.cycles (seen_entries x.ended.journal.items)) (ap sinks.held (sym x.written.master))
+          (subst (λ (z : Left). IsCutOff x.ended.failed.input on.opening.started.begun.before (sinks.held p.master.sink) s z.edits (samples_of (source_sound on.opening.started.begun.files z.opened) s z.edits) z.room (seen_entries z.journal))
+          (λ i. left_of (edits_path i) (opened_path i) (room_path i) (journal_path i).items) (by_before run.failed.master refl))

@@ -10,8 +10,9 @@ use Rattle.worker_pair.specs.declared.pair.Pair.{Pair}
 use Rattle.worker_pair.specs.Runs.{Rests, Runs}
 use Rattle.worker_pair.proofs.NowLemmas.{now_rests, now_runs}
 use Rattle.engine_core.specs.declared.run.Run.{Run}
-use Rattle.engine_core.specs.Started.{Started, now_of}
-use Rattle.engine_core.specs.CutOff.{IsCutAtHead, IsCutInCycle}
+use Rattle.run_end.specs.Started.{Started}
+use Rattle.engine_core.specs.Now.{now_of}
+use Rattle.run_end.specs.CutOff.{IsCutAtHead, IsCutInCycle}
 use Rattle.engine_core.specs.UnderWay.{IsUnderWay}
 use Rattle.engine_core.proofs.KeepLemmas.{counts_stand, short_stands}
 

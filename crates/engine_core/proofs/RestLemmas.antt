@@ -20,8 +20,9 @@ use Rattle.control_letter.specs.Shown.{standing_by}
 use Rattle.serial_laws.specs.Leads.{HasGoneOn}
 use Rattle.serial_laws.proofs.RestLemmas.{a_line_is_carried_out, no_letter_is_needed, the_rest_begins}
 use Rattle.engine_core.specs.declared.run.Run.{Run}
-use Rattle.engine_core.specs.Failed.{has_stopped}
-use Rattle.engine_core.specs.Started.{Started, is_played_out}
+use Rattle.run_end.specs.Failures.{has_stopped}
+use Rattle.run_end.specs.Started.{Started}
+use Rattle.engine_core.specs.Now.{is_played_out}
 use Rattle.engine_core.specs.UnderWay.{IsUnderWay}
 use Rattle.engine_core.specs.declared.engine.Engine.{Engine}
 use Rattle.engine_core.specs.Carrying.{CarriesALine, PublishesAsMachine}

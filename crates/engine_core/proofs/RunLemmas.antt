@@ -1,18 +1,18 @@
 -- What a run that was played leaves, as its caller sees it.
-use Rattle.std.proofs.Common.{◌≡◌, inl, inr, ℕ, suc, length, refl, sym, ap, subst, ◌∙◌}
-use Rattle.std.specs.Prelude.{◌⊎◌, Bool, true, false, List, [], map, reverse, Option, Some, None, Result, Ok, Err, IfOk}
+use Rattle.std.proofs.Common.{◌≡◌, inl, inr, ℕ, suc, ◌<◌, length, refl, sym, ap, subst, ◌∙◌}
+use Rattle.std.specs.Prelude.{◌⊎◌, Bool, true, false, List, [], drop, map, reverse, Option, Some, None, Result, Ok, Err, IfOk}
 use Rattle.std.proofs.lemmas.Bool.{or_from, or_parts, true≢false}
 use Rattle.engine_model.specs.Edits.{has_quit}
 use Rattle.ses_io.specs.FixedList.{Listed}
 use Rattle.cycle_journal.specs.declared.entry.Entry.{Entry}
 use Rattle.cycle_journal.specs.JournalView.{seen_entries, seen_entry}
-use Rattle.input_blocks.specs.State.{IsReadTo}
+use Rattle.input_blocks.specs.State.{InputState, IsReadTo, SoFar, bytes_due}
 use Rattle.std.proofs.lemmas.List.{length-map}
 use Rattle.ses_io.specs.Outside.{MediaOutside, SourceOutside, SinkOutside}
 use Rattle.control_desk.specs.State.{parts_of}
 use Rattle.control_desk.specs.Standing.{read_failed, write_failed}
-use Rattle.engine_core.specs.Takes.{LeavesTakes}
-use Rattle.engine_core.specs.Failed.{IsCounted, has_stopped}
+use Rattle.run_end.specs.Takes.{LeavesTakes}
+use Rattle.run_end.specs.Failures.{IsFaultCount, has_stopped}
 use Rattle.run_letters.specs.declared.event.Event.{Event}
 use Rattle.run_letters.specs.Events.{letter_of}
 use Rattle.engine_core.specs.Events.{Course}
@@ -20,20 +20,25 @@ use Rattle.master_blocks.specs.Laws.{TheMasterIsItsBlocks}
 use Rattle.run_world.specs.declared.finished.Finished.{Finished}
 use Rattle.run_world.specs.declared.opened.Opened.{Opened}
 use Rattle.run_world.specs.declared.opened.Script.{Script}
-use Rattle.engine_core.specs.Beginning.{MayRun, control_of, course_of, started_of}
-use Rattle.engine_core.specs.Finished.{FaultsAreCounted, LeavesRings, SendsGenuine, ended_of, finished_of}
-use Rattle.engine_core.specs.Lines.{GoesByItsLines}
+use Rattle.run_end.specs.Beginning.{MayRun, started_of}
+use Rattle.run_end.specs.Lines.{control_of}
+use Rattle.engine_core.specs.Beginning.{course_of}
+use Rattle.run_end.specs.Finished.{FaultsAreCounted, LeavesRings, SendsGenuine, run_end_of}
+use Rattle.engine_core.specs.Played.{finished_of}
+use Rattle.run_end.specs.Lines.{TakesItsLines}
+use Rattle.engine_core.specs.Lines.{GoesByItsLines, IsOfOneThread}
+use Rattle.engine_core.specs.UnderWay.{InputIsShort}
+use Rattle.engine_core.proofs.InputLemmas.{due_is, left_is}
 use Rattle.engine_core.specs.Serially.{GoesSerially}
-use Rattle.engine_core.specs.Mastered.{GetsAFront, GetsTheMaster, MakesItsCycles, ReadsItsInput, WritesTheMaster}
-use Rattle.engine_core.specs.CutOff.{IsCutAtHead, IsCutInCycle}
+use Rattle.run_end.specs.Mastered.{InputGave, MakesItsCycles, MasterIsCutOff, MasterIsWhole, WritesTheMaster, after_blocks, bytes_due_after}
+use Rattle.run_end.specs.CutOff.{IsCutAtHead, IsCutInCycle}
 use Rattle.engine_core.specs.Played.{IsPlayed}
-use Rattle.engine_core.specs.Started.{now_of}
+use Rattle.engine_core.specs.Now.{now_of}
 use Rattle.worker_pair.specs.Begun.{playing_at}
 use Rattle.engine_core.proofs.AnswerLemmas.{ControlIsCounted, control_counted}
 use Rattle.engine_core.proofs.LinesLemmas as lines
 use Rattle.engine_core.proofs.SeriallyLemmas as serially
 use Rattle.engine_core.proofs.MasteredLemmas as master
-use Rattle.engine_core.proofs.FrontLemmas as front
 
 -- what is so of each run that was played is so where one was
 pub if_played : {X Y : Type 0} (P Q : X → Type 0) → ((x : X) → P x → Q x) → (result : Result X Y) → IfOk result P → IfOk result Q
@@ -65,11 +70,8 @@ module _ {M I C W O : Type 0} (media : MediaOutside M) (inputs : SourceOutside I
     goes_serially : events ≡ [] → GoesSerially o.edition.session (finished_of x.ended (parts_of x.engine.control))
     goes_serially none = record { takes_all = serially.takes_all media inputs source sinks sink on f x (ap (map letter_of) none); plays = serially.plays media inputs source sinks sink on f x (ap (map letter_of) none) }
 
-    goes_by_its_lines : GoesByItsLines source sink o events (finished_of x.ended (parts_of x.engine.control))
-    goes_by_its_lines = record {
-      lines = x.going.lines;
-      left = lines.lines_left source x.engine.control;
-      replies = reverse x.going.replies;
+    takes_its_lines : TakesItsLines source sink o x.going.lines (lines.lines_left source x.engine.control) (reverse x.going.replies) (finished_of x.ended (parts_of x.engine.control))
+    takes_its_lines = record {
       control = x.engine.control;
       goes = x.going.said.goes;
       parts = refl;
@@ -79,18 +81,28 @@ module _ {M I C W O : Type 0} (media : MediaOutside M) (inputs : SourceOutside I
       ended_by = lines.ended_by media inputs source sinks sink on f x;
       taken = lines.taken media inputs source sinks sink on f x;
       replied = lines.replied media inputs source sinks sink on f x;
-      holds = lines.holds media inputs source sinks sink on f x;
       edits = lines.edits_are media inputs source sinks sink on f x;
       answered = lines.replies_are media inputs source sinks sink on f x;
       acknowledged = lines.acknowledged media inputs source sinks sink on f x;
+    }
+
+    of_one_thread : IsOfOneThread o events x.going.lines (lines.lines_left source x.engine.control) (reverse x.going.replies) (finished_of x.ended (parts_of x.engine.control))
+    of_one_thread = record {
+      holds = lines.holds media inputs source sinks sink on f x;
       machine = λ fine. lines.is_the_machines media inputs source sinks sink on f x fine;
       plainly = λ fine none. lines.is_plain media inputs source sinks sink on f x fine (ap (map letter_of) none) may.valid may.some_cycle may.near;
       paced = λ none. serially.paced media inputs source sinks sink on f x (ap (map letter_of) none);
       serially = goes_serially;
+      none_taken = x.written.none_taken;
+      ungranted = refl;
+      memory = refl;
     }
 
+    goes_by_its_lines : GoesByItsLines source sink o events (finished_of x.ended (parts_of x.engine.control))
+    goes_by_its_lines = record { lines = x.going.lines; left = lines.lines_left source x.engine.control; replies = reverse x.going.replies; takes = takes_its_lines; alone = of_one_thread }
+
     leaves_rings : LeavesRings o (finished_of x.ended (parts_of x.engine.control))
-    leaves_rings = record { passed = x.passed; left = x.left; acks = x.acks; ungranted = refl }
+    leaves_rings = x.rings
 
     -- the process hadn't stopped before the end where it hasn't now
     run_goes : has_stopped x.ended.failed ≡ false → has_stopped x.engine.run.failed ≡ false
@@ -108,39 +120,64 @@ module _ {M I C W O : Type 0} (media : MediaOutside M) (inputs : SourceOutside I
       all = λ unquit goes. master.all_made media inputs source sinks sink on f x (ap (λ l. has_quit l (length l)) (sym x.written.edits) ∙ unquit) (run_goes goes);
     }
 
-    reads_its_input : ReadsItsInput inputs (started_of media inputs sinks o) (finished_of x.ended (parts_of x.engine.control))
-    reads_its_input = record {
-      now = x.engine.run.pair.process.input;
-      is = sym x.written.input;
-      of = x.going.may.under_way.input;
-      read = λ goes. subst (λ n. IsReadTo inputs (record { start = o_start; blocks = n }) x.engine.run.pair.process.input) many (x.going.may.under_way.runs (run_goes goes)).playing.read;
-      fell = λ bad. let short = x.going.may.under_way.input_short (sym x.written.input_failed ∙ bad) in record {
-        before = short.before;
-        of = short.of;
-        read = subst (λ n. IsReadTo inputs (record { start = o_start; blocks = n }) short.before) many short.read;
-        lost = short.lost;
-      };
-      cut = λ bad fine. cut_by fine x.engine.run.failed.master refl;
-    }
+    abbrev made : ℕ
+    made = length (seen_entries x.ended.journal.items)
+
+    many : length x.engine.run.pair.process.journal.items ≡ made
+    many = sym (ap (λ (j : Listed Entry). length j.items) x.written.journal) ∙ sym (length-map x.ended.journal.items seen_entry)
+
+    abbrev input : InputState I
+    input = x.engine.run.pair.process.input
+
+    abbrev so_far : ℕ → SoFar
+    so_far n = record { start = inputs.left o.world.input; blocks = n }
+
+    -- the input that is left, where it was read so far
+    left_after : (n : ℕ) → IsReadTo inputs (so_far n) input → inputs.tells → inputs.left x.ended.input ≡ after_blocks inputs o n
+    left_after n read tells = ap inputs.left x.written.input ∙ left_is inputs on.opening.started n input x.going.may.under_way.input read tells
+
+    -- where a read of it failed
+    module _ (bad : x.ended.failed.input ≡ true) where
+      short : InputIsShort inputs on.opening.started x.engine.run
+      short = x.going.may.under_way.input_short (sym x.written.input_failed ∙ bad)
+
+      read_before : IsReadTo inputs (so_far made) short.before
+      read_before = subst (λ n. IsReadTo inputs (so_far n) short.before) many short.read
+
+      due : bytes_due short.before ≡ bytes_due_after o made
+      due = due_is inputs on.opening.started made short.before short.of read_before
+
+      fell : inputs.tells → (n : ℕ) × (n < bytes_due_after o made) × (inputs.left x.ended.input ≡ drop n (after_blocks inputs o made))
+      fell tells = let lost = short.lost.lost tells in (
+        lost.0,
+        subst (λ k. lost.0 < k) due lost.1,
+        ap inputs.left x.written.input ∙ lost.2 ∙ ap (drop lost.0) (left_is inputs on.opening.started made short.before short.of read_before tells),
+      )
+
+    -- where a write of the master failed
+    cut_by : x.ended.failed.input ≡ false → (b : Bool) → x.engine.run.failed.master ≡ b → IsReadTo inputs (so_far made) input ⊎ IsReadTo inputs (so_far (suc made)) input
+    cut_by fine false e = inl (subst (λ n. IsReadTo inputs (so_far n) input) many
+        (x.going.may.under_way.runs (or_from x.engine.run.failed.input x.engine.run.failed.master (sym x.written.input_failed ∙ fine) e)).playing.read)
+    cut_by fine true e = by (x.going.may.under_way.cut e)
       where
-        o_start : List ℕ
-        o_start = inputs.left o.world.input
+        by : IsCutAtHead inputs sinks on.opening.started.begun x.engine.run.pair.process ⊎ IsCutInCycle inputs sinks (playing_at (now_of on.opening.started x.engine.run)) x.engine.run.pair.process →
+            IsReadTo inputs (so_far made) input ⊎ IsReadTo inputs (so_far (suc made)) input
+        by (inl c) = inl (subst (λ n. IsReadTo inputs (so_far n) input) (sym (ap length c.none) ∙ many) c.read)
+        by (inr c) = inr (subst (λ n. IsReadTo inputs (so_far (suc n)) input) many c.read)
 
-        many : length x.engine.run.pair.process.journal.items ≡ length (seen_entries x.ended.journal.items)
-        many = sym (ap (λ (j : Listed Entry). length j.items) x.written.journal) ∙ sym (length-map x.ended.journal.items seen_entry)
+    either : IsReadTo inputs (so_far made) input ⊎ IsReadTo inputs (so_far (suc made)) input → inputs.tells →
+        (inputs.left x.ended.input ≡ after_blocks inputs o made) ⊎ (inputs.left x.ended.input ≡ after_blocks inputs o (suc made))
+    either (inl read) tells = inl (left_after made read tells)
+    either (inr read) tells = inr (left_after (suc made) read tells)
 
-        -- how far, by whether a write had failed before the end
-        cut_by : x.ended.failed.input ≡ false → (b : Bool) → x.engine.run.failed.master ≡ b → IsReadTo inputs (record { start = o_start; blocks = length (seen_entries x.ended.journal.items) }) x.engine.run.pair.process.input
-            ⊎ IsReadTo inputs (record { start = o_start; blocks = suc (length (seen_entries x.ended.journal.items)) }) x.engine.run.pair.process.input
-        cut_by fine false e = inl (subst (λ n. IsReadTo inputs (record { start = o_start; blocks = n }) x.engine.run.pair.process.input) many
-            (x.going.may.under_way.runs (or_from x.engine.run.failed.input x.engine.run.failed.master (sym x.written.input_failed ∙ fine) e)).playing.read)
-        cut_by fine true e = by (x.going.may.under_way.cut e)
-          where
-            by : IsCutAtHead inputs sinks on.opening.started.begun x.engine.run.pair.process ⊎ IsCutInCycle inputs sinks (playing_at (now_of on.opening.started x.engine.run)) x.engine.run.pair.process →
-                IsReadTo inputs (record { start = o_start; blocks = length (seen_entries x.ended.journal.items) }) x.engine.run.pair.process.input
-                ⊎ IsReadTo inputs (record { start = o_start; blocks = suc (length (seen_entries x.ended.journal.items)) }) x.engine.run.pair.process.input
-            by (inl c) = inl (subst (λ n. IsReadTo inputs (record { start = o_start; blocks = n }) x.engine.run.pair.process.input) (sym (ap length c.none) ∙ many) c.read)
-            by (inr c) = inr (subst (λ n. IsReadTo inputs (record { start = o_start; blocks = suc n }) x.engine.run.pair.process.input) many c.read)
+    input_gave : InputGave inputs o (finished_of x.ended (parts_of x.engine.control))
+    input_gave = record {
+      untouched = λ none. x.written.input ∙ x.going.may.under_way.input.untouched none;
+      read = λ tells goes. left_after made (subst (λ n. IsReadTo inputs (so_far n) input) many (x.going.may.under_way.runs (run_goes goes)).playing.read) tells;
+      asked = λ bad. subst (λ k. 0 < k) (due bad) (short bad).lost.asked;
+      fell = λ tells bad. fell bad tells;
+      cut = λ tells fine bad. either (cut_by fine x.engine.run.failed.master refl) tells;
+    }
 
     faults_are_counted : FaultsAreCounted media inputs source sinks sink o (finished_of x.ended (parts_of x.engine.control))
     faults_are_counted = record {
@@ -148,17 +185,16 @@ module _ {M I C W O : Type 0} (media : MediaOutside M) (inputs : SourceOutside I
       writes = x.counts.writes;
       inputs_are = x.counts.inputs_are;
       masters = x.counts.masters;
-      controls = subst (λ c. IsCounted (source.faults c) (source.faults x.engine.control.lines.source) (read_failed x.engine.control.standing)) (begins_at o.world.control o.world.out o.script).0 counted.reads;
-      outs = subst (λ c. IsCounted (sink.faults c) (sink.faults x.engine.control.out) (write_failed x.engine.control.standing)) (begins_at o.world.control o.world.out o.script).1 counted.writes;
-      memory = refl;
+      controls = subst (λ c. IsFaultCount (source.faults c) (source.faults x.engine.control.lines.source) (read_failed x.engine.control.standing)) (begins_at o.world.control o.world.out o.script).0 counted.reads;
+      outs = subst (λ c. IsFaultCount (sink.faults c) (sink.faults x.engine.control.out) (write_failed x.engine.control.standing)) (begins_at o.world.control o.world.out o.script).1 counted.writes;
     }
       where
         counted : ControlIsCounted source sink (control_of o.world.control o.world.out o.script) x.engine.control
         counted = control_counted source sink (control_of o.world.control o.world.out o.script) x.engine.control x.going.lines (reverse x.going.replies)
             (unread o.world.control o.world.out o.script) (unwritten o.world.control o.world.out o.script) x.going.said.goes
 
-    gets_the_master : TheMasterIsItsBlocks → media.tells → sinks.tells → GetsTheMaster media sinks o (finished_of x.ended (parts_of x.engine.control))
-    gets_the_master law tells told fine = master.master_is media inputs source sinks sink on f x tells told fine may.valid law
+    master_is_whole : TheMasterIsItsBlocks → media.tells → sinks.tells → MasterIsWhole media sinks o (finished_of x.ended (parts_of x.engine.control))
+    master_is_whole law tells told fine = master.master_is media inputs source sinks sink on f x tells told fine may.valid law
 
   -- as the run is what was left
   pub lines_of : (f : Finished M I C W O) → Played f → GoesByItsLines source sink o events f
@@ -170,23 +206,23 @@ module _ {M I C W O : Type 0} (media : MediaOutside M) (inputs : SourceOutside I
   pub genuine_of : media.tells → (f : Finished M I C W O) → Played f → SendsGenuine media o f
   genuine_of tells f x = subst (SendsGenuine media o) (sym x.is) (x.genuine tells)
 
-  whole_of : TheMasterIsItsBlocks → media.tells → sinks.tells → (f : Finished M I C W O) → Played f → GetsTheMaster media sinks o f
-  whole_of law tells told f x = subst (GetsTheMaster media sinks o) (sym x.is) (gets_the_master f x law tells told)
+  whole_of : TheMasterIsItsBlocks → media.tells → sinks.tells → (f : Finished M I C W O) → Played f → MasterIsWhole media sinks o f
+  whole_of law tells told f x = subst (MasterIsWhole media sinks o) (sym x.is) (master_is_whole f x law tells told)
 
-  front_of : media.tells → sinks.tells → (f : Finished M I C W O) → Played f → GetsAFront media sinks o f
-  front_of tells told f x = subst (GetsAFront media sinks o) (sym x.is) (λ bad. front.is_cut_off media inputs source sinks sink on f x tells told bad)
+  cut_off_of : media.tells → sinks.tells → (f : Finished M I C W O) → Played f → MasterIsCutOff media sinks o f
+  cut_off_of tells told f x = subst (MasterIsCutOff media sinks o) (sym x.is) (λ bad. master.is_cut_off media inputs source sinks sink on f x tells told bad)
 
   pub master_of : TheMasterIsItsBlocks → media.tells → sinks.tells → (f : Finished M I C W O) → Played f → WritesTheMaster media sinks o f
-  master_of law tells told f x = record { whole = whole_of law tells told f x; front = front_of tells told f x }
+  master_of law tells told f x = record { whole = whole_of law tells told f x; cut_off = cut_off_of tells told f x }
 
   pub cycles_of : (f : Finished M I C W O) → Played f → MakesItsCycles o f
   cycles_of f x = subst (MakesItsCycles o) (sym x.is) (makes_its_cycles f x)
 
-  pub input_of : (f : Finished M I C W O) → Played f → ReadsItsInput inputs (started_of media inputs sinks o) f
-  input_of f x = subst (ReadsItsInput inputs (started_of media inputs sinks o)) (sym x.is) (reads_its_input f x)
+  pub input_of : (f : Finished M I C W O) → Played f → InputGave inputs o f
+  input_of f x = subst (InputGave inputs o) (sym x.is) (input_gave f x)
 
-  pub takes_of : (f : Finished M I C W O) → Played f → LeavesTakes media inputs (started_of media inputs sinks o) (ended_of f)
-  takes_of f x = subst (λ z. LeavesTakes media inputs (started_of media inputs sinks o) (ended_of z)) (sym x.is) x.takes
+  pub takes_of : (f : Finished M I C W O) → Played f → LeavesTakes media inputs (started_of media inputs sinks o) (run_end_of f)
+  takes_of f x = subst (λ z. LeavesTakes media inputs (started_of media inputs sinks o) (run_end_of z)) (sym x.is) x.takes
 
   pub counts_of : (f : Finished M I C W O) → Played f → FaultsAreCounted media inputs source sinks sink o f
   counts_of f x = subst (FaultsAreCounted media inputs source sinks sink o) (sym x.is) (faults_are_counted f x)

@@ -14,8 +14,9 @@ use Rattle.process_cycle.specs.ProcessState.{ProcessState, entries_of}
 use Rattle.worker_pair.specs.Plays.{Cycles}
 use Rattle.worker_pair.specs.Steps.{may_enter}
 use Rattle.engine_core.specs.declared.run.Run.{Run}
-use Rattle.engine_core.specs.Failed.{after_cycle, has_stopped}
-use Rattle.engine_core.specs.Started.{Started, is_played_out, now_of}
+use Rattle.run_end.specs.Failures.{after_cycle, has_stopped}
+use Rattle.run_end.specs.Started.{Started}
+use Rattle.engine_core.specs.Now.{is_played_out, now_of}
 use Rattle.engine_core.specs.UnderWay.{IsUnderWay}
 use Rattle.engine_core.specs.Letters.{CyclesOn, EntersOn}
 use Rattle.engine_core.proofs.EnterLemmas.{either}

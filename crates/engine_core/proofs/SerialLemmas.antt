@@ -27,13 +27,14 @@ use Rattle.worker_pair.specs.Plays.{Cycles, Looks}
 use Rattle.engine_core.specs.declared.run.Run.{Run}
 use Rattle.engine_core.specs.Cycles.{IsServed, MayPlay}
 use Rattle.engine_core.specs.Due.{is_line_due}
-use Rattle.engine_core.specs.Failed.{has_stopped}
+use Rattle.run_end.specs.Failures.{has_stopped}
 use Rattle.engine_core.specs.Letters.{CyclesOn, EntersOn, MakesCycle}
 use Rattle.engine_core.specs.Fed.{PlayAsPlain, PlaysPlain}
 use Rattle.engine_core.specs.Lost.{LosesNone}
 use Rattle.engine_core.specs.Serial.{KeepsUp, PlaysNewest}
 use Rattle.engine_core.specs.Shows.{edits_of, made_of, shows}
-use Rattle.engine_core.specs.Started.{Started, is_played_out, now_of}
+use Rattle.run_end.specs.Started.{Started}
+use Rattle.engine_core.specs.Now.{is_played_out, now_of}
 use Rattle.engine_core.specs.UnderWay.{IsUnderWay}
 use Rattle.engine_core.specs.WentOn.{WentOn}
 use Rattle.engine_core.proofs.FedBeginLemmas.{plain_with}

@@ -6,7 +6,7 @@ use Rattle.machine_model.specs.Events.{EnterProcess, after, step}
 use Rattle.machine_model.specs.Letters.{butler_moves, cycle_moves, gather_moves}
 use Rattle.machine_model.specs.Rest.{BeforeEntry, BeforeLook, BeforeTurn, Between, Phase}
 use Rattle.engine_core.specs.declared.run.Run.{Run}
-use Rattle.engine_core.specs.Failed.{nothing_failed}
+use Rattle.run_end.specs.Failures.{nothing_failed}
 use Rattle.engine_core.specs.Letters.{CycleIsP, EnteringIsE, GatheringIsG, TurnIsB}
 use Rattle.engine_core.specs.Cycles.{GoesAsMachine, PlaysAsMachine}
 use Rattle.engine_core.specs.Leading.{LeadsOn}

@@ -16,13 +16,13 @@ use Rattle.serial_laws.proofs.PacedLemmas.{all_is_paced_at_the_end}
 use Rattle.run_world.specs.declared.finished.Finished.{Finished}
 use Rattle.engine_core.specs.declared.run.Run.{Run}
 use Rattle.engine_core.specs.Events.{Course}
-use Rattle.engine_core.specs.Failed.{has_stopped}
+use Rattle.run_end.specs.Failures.{has_stopped}
 use Rattle.engine_core.specs.Fed.{PlayAsPlain}
 use Rattle.engine_core.specs.Played.{IsPlayed}
 use Rattle.engine_core.specs.Serial.{KeepsUp}
 use Rattle.engine_core.specs.Serially.{TakesAll}
 use Rattle.engine_core.specs.Shows.{edits_of, made_of}
-use Rattle.engine_core.specs.Started.{is_played_out}
+use Rattle.engine_core.specs.Now.{is_played_out}
 use Rattle.engine_core.proofs.LinesLemmas as lines
 use Rattle.engine_core.proofs.LinesLemmas.{before_by, none_awaited}
 use Rattle.engine_core.proofs.SerialCycleLemmas.{many_made}

@@ -11,7 +11,7 @@ use Rattle.piece_item.specs.declared.take_block.TakeBlock.{TakeBlock}
 use Rattle.butler.specs.ButlerState.{ButlerState}
 use Rattle.capture_drain.specs.Drains.{total_received}
 use Rattle.read_ahead.specs.AllServes.{total_sent}
-use Rattle.process_cycle.specs.Ends.{AllMeet, AreOtherEnds}
+use Rattle.process_ends.specs.Ends.{AllMeet, AreOtherEnds}
 use Rattle.process_cycle.specs.ProcessState.{ProcessState}
 use Rattle.worker_pair.specs.declared.pair.Pair.{Pair}
 use Rattle.worker_pair.specs.Plays.{Looks}
@@ -19,8 +19,8 @@ use Rattle.worker_pair.specs.Steps.{left_to_do}
 use Rattle.worker_pair.specs.Tied.{rings_of}
 use Rattle.worker_pair.proofs.TotalLemmas.{same_in_all}
 use Rattle.engine_core.specs.declared.run.Run.{Run}
-use Rattle.engine_core.specs.Failed.{has_stopped}
-use Rattle.engine_core.specs.Started.{Started}
+use Rattle.run_end.specs.Failures.{has_stopped}
+use Rattle.run_end.specs.Started.{Started}
 use Rattle.engine_core.specs.UnderWay.{IsUnderWay}
 use Rattle.engine_core.specs.Letters.{EntersOn, GathersOn, TurnsOn}
 use Rattle.engine_core.proofs.EnterLemmas.{either}

@@ -1,6 +1,6 @@
 -- A turn of the butler leaves a run under way, and is the letter B of the core machine while nothing fails.
-use Rattle.std.proofs.Common.{◌≡◌, ℕ, refl, sym, ap, subst, ◌∙◌}
-use Rattle.std.specs.Prelude.{◌⊎◌, Bool, true, false, not, ◌||◌, if◌then◌else◌, Result, Ok, Err}
+use Rattle.std.proofs.Common.{◌≡◌, sym, ap, subst, ◌∙◌}
+use Rattle.std.specs.Prelude.{◌⊎◌, Bool, Result, Ok, Err}
 use Rattle.std.proofs.lemmas.Bool.{false≢true}
 use Rattle.ses_io.specs.Outside.{MediaOutside, SourceOutside, SinkOutside}
 use Rattle.session_model.specs.declared.session.Session.{Session}
@@ -8,7 +8,6 @@ use Rattle.butler.specs.declared.turning.Turn.{Turn}
 use Rattle.butler.specs.declared.faults.ButlerFault.{ButlerFault}
 use Rattle.butler.specs.declared.faults.ButlerFault.TheVariants.{ReadFault, WriteFault}
 use Rattle.butler.specs.ButlerState.{ButlerState}
-use Rattle.butler.specs.Faults.{Counts, is_read_fault, is_write_fault}
 use Rattle.process_cycle.specs.ProcessState.{Playing, items_of}
 use Rattle.process_cycle.specs.Promised.{IsMastered}
 use Rattle.worker_pair.specs.declared.ending.Ending.{Ending}
@@ -19,77 +18,18 @@ use Rattle.worker_pair.specs.Steps.{PairTurnsAsMachine, Turns, TurnsOnly, is_idl
 use Rattle.worker_pair.specs.Tied.{rings_of}
 use Rattle.worker_pair.proofs.NowLemmas.{now_rests, now_runs}
 use Rattle.worker_pair.proofs.TurnLemmas.{others_turned}
-use Rattle.engine_core.specs.declared.failed.Failed.{Failed}
+use Rattle.run_end.specs.declared.failures.Failures.{Failures}
 use Rattle.engine_core.specs.declared.run.Run.{Run}
-use Rattle.engine_core.specs.Failed.{IsCounted, after_turn, has_stopped, nothing_failed}
-use Rattle.engine_core.specs.Started.{Started, AreCounted, now_of}
+use Rattle.run_end.specs.Failures.{IsFaultCount, after_turn, has_stopped, nothing_failed}
+use Rattle.run_end.specs.Started.{Started}
+use Rattle.engine_core.specs.Now.{AreCounted, now_of}
 use Rattle.engine_core.specs.Letters.{TurnIsB}
-use Rattle.engine_core.specs.CutOff.{IsCutAtHead, IsCutInCycle}
+use Rattle.run_end.specs.CutOff.{IsCutAtHead, IsCutInCycle}
 use Rattle.engine_core.specs.UnderWay.{IsInputOf, IsUnderWay}
-use Rattle.engine_core.proofs.DepthLemmas.{depths_met}
-use Rattle.engine_core.proofs.KeepLemmas.{counted_still, counted_more, items_met, cut_stands, short_stands}
-
--- ---- by what a turn answers
-
--- it stops no process,
-stops_same : (answer : Result Turn ButlerFault) (f : Failed) → has_stopped (after_turn answer f) ≡ has_stopped f
-stops_same (Ok t) f = refl
-stops_same (Err ReadFault) f = refl
-stops_same (Err WriteFault) f = refl
-
--- no fault of the input is noted,
-input_same : (answer : Result Turn ButlerFault) (f : Failed) → (after_turn answer f).input ≡ f.input
-input_same (Ok t) f = refl
-input_same (Err ReadFault) f = refl
-input_same (Err WriteFault) f = refl
-
--- and none of the master
-master_same : (answer : Result Turn ButlerFault) (f : Failed) → (after_turn answer f).master ≡ f.master
-master_same (Ok t) f = refl
-master_same (Err ReadFault) f = refl
-master_same (Err WriteFault) f = refl
-
--- the count of failed reads rose where it is noted,
-pub reads_on : (answer : Result Turn ButlerFault) (f : Failed) (before was now : ℕ) → Counts (is_read_fault answer) was now → IsCounted before was f.read → IsCounted before now (after_turn answer f).read
-reads_on (Ok t) f before was now same c = counted_still before was now f.read same c
-reads_on (Err ReadFault) f before was now more c = counted_more before was now f.read more.later more.rose c
-reads_on (Err WriteFault) f before was now same c = counted_still before was now f.read same c
-
--- and so did that of failed writes
-pub writes_on : (answer : Result Turn ButlerFault) (f : Failed) (before was now : ℕ) → Counts (is_write_fault answer) was now → IsCounted before was f.write → IsCounted before now (after_turn answer f).write
-writes_on (Ok t) f before was now same c = counted_still before was now f.write same c
-writes_on (Err ReadFault) f before was now same c = counted_still before was now f.write same c
-writes_on (Err WriteFault) f before was now more c = counted_more before was now f.write more.later more.rose c
-
--- the butler knows of a read that failed,
-pub read_known : (answer : Result Turn ButlerFault) (f : Failed) (was now : Bool) → now ≡ (if is_read_fault answer then true else was) → was ≡ f.read → now ≡ (after_turn answer f).read
-read_known (Ok t) f was now same known = same ∙ known
-read_known (Err ReadFault) f was now same known = same
-read_known (Err WriteFault) f was now same known = same ∙ known
-
--- and of a write that failed
-pub write_known : (answer : Result Turn ButlerFault) (f : Failed) (was now : Bool) → now ≡ (if is_write_fault answer then true else was) → was ≡ f.write → now ≡ (after_turn answer f).write
-write_known (Ok t) f was now same known = same ∙ known
-write_known (Err ReadFault) f was now same known = same ∙ known
-write_known (Err WriteFault) f was now same known = same
-
--- where a read has failed, something has,
-pub some_read : (i m w : Bool) → not (i || m || true || w) ≡ false
-some_read true true w = refl
-some_read true false w = refl
-some_read false true w = refl
-some_read false false w = refl
-
--- and where a write has
-pub some_write : (i m r : Bool) → not (i || m || r || true) ≡ false
-some_write true true true = refl
-some_write true true false = refl
-some_write true false true = refl
-some_write true false false = refl
-some_write false true true = refl
-some_write false true false = refl
-some_write false false true = refl
-some_write false false false = refl
+use Rattle.run_end.proofs.DepthLemmas.{depths_met}
+use Rattle.run_end.proofs.CountedLemmas.{counted_still}
+use Rattle.run_end.proofs.FaultLemmas.{input_same, master_same, read_known, reads_on, some_read, some_write, stops_same, write_known, writes_on}
+use Rattle.engine_core.proofs.KeepLemmas.{items_met, cut_stands, short_stands}
 
 -- ---- the letter
 
@@ -118,11 +58,11 @@ module _ {V I W : Type 0} (media : MediaOutside V) (inputs : SourceOutside I) (s
 
   -- the master was cut off where it had been,
   master_failed : new.failed.master ≡ old.failed.master
-  master_failed = ap (λ (f : Failed). f.master) failed ∙ master_same answer old.failed
+  master_failed = ap (λ (f : Failures). f.master) failed ∙ master_same answer old.failed
 
   -- and so was the input
   input_failed : new.failed.input ≡ old.failed.input
-  input_failed = ap (λ (f : Failed). f.input) failed ∙ input_same answer old.failed
+  input_failed = ap (λ (f : Failures). f.input) failed ∙ input_same answer old.failed
 
   -- the butler is that of the turn, but for its ends
   butler_is : new.pair.butler ≡ record turns.butler { ends = new.pair.butler.ends }
@@ -131,22 +71,22 @@ module _ {V I W : Type 0} (media : MediaOutside V) (inputs : SourceOutside I) (s
   -- the counts of faults
   counts_on : AreCounted media inputs sinks on new
   counts_on = record {
-    reads = subst (λ (f : Failed). IsCounted (media.read_faults on.media) (media.read_faults new.pair.butler.media) f.read) (sym failed)
-        (subst (λ (b : ButlerState V). IsCounted (media.read_faults on.media) (media.read_faults b.media) (after_turn answer old.failed).read) (sym butler_is)
+    reads = subst (λ (f : Failures). IsFaultCount (media.read_faults on.media) (media.read_faults new.pair.butler.media) f.read) (sym failed)
+        (subst (λ (b : ButlerState V). IsFaultCount (media.read_faults on.media) (media.read_faults b.media) (after_turn answer old.failed).read) (sym butler_is)
         (reads_on answer old.failed (media.read_faults on.media) (media.read_faults old.pair.butler.media) (media.read_faults turns.butler.media) turns.turn.fails.reads under.counts.reads));
-    writes = subst (λ (f : Failed). IsCounted (media.write_faults on.media) (media.write_faults new.pair.butler.media) f.write) (sym failed)
-        (subst (λ (b : ButlerState V). IsCounted (media.write_faults on.media) (media.write_faults b.media) (after_turn answer old.failed).write) (sym butler_is)
+    writes = subst (λ (f : Failures). IsFaultCount (media.write_faults on.media) (media.write_faults new.pair.butler.media) f.write) (sym failed)
+        (subst (λ (b : ButlerState V). IsFaultCount (media.write_faults on.media) (media.write_faults b.media) (after_turn answer old.failed).write) (sym butler_is)
         (writes_on answer old.failed (media.write_faults on.media) (media.write_faults old.pair.butler.media) (media.write_faults turns.butler.media) turns.turn.fails.writes under.counts.writes));
-    inputs_are = subst (λ z. IsCounted (inputs.faults on.input) (inputs.faults new.pair.process.input.input) z) (sym input_failed)
+    inputs_are = subst (λ z. IsFaultCount (inputs.faults on.input) (inputs.faults new.pair.process.input.input) z) (sym input_failed)
         (counted_still (inputs.faults on.input) (inputs.faults old.pair.process.input.input) (inputs.faults new.pair.process.input.input) old.failed.input
         (ap (λ (z : Pair V I W). inputs.faults z.process.input.input) only) under.counts.inputs_are);
-    masters = subst (λ z. IsCounted (sinks.faults on.master) (sinks.faults new.pair.process.master.sink) z) (sym master_failed)
+    masters = subst (λ z. IsFaultCount (sinks.faults on.master) (sinks.faults new.pair.process.master.sink) z) (sym master_failed)
         (counted_still (sinks.faults on.master) (sinks.faults old.pair.process.master.sink) (sinks.faults new.pair.process.master.sink) old.failed.master
         (ap (λ (z : Pair V I W). sinks.faults z.process.master.sink) only) under.counts.masters);
     butler_reads = read_known answer old.failed old.pair.butler.read_failed new.pair.butler.read_failed (ap (λ (b : ButlerState V). b.read_failed) butler_is ∙ turns.turn.fails.read_failed) under.counts.butler_reads
-        ∙ sym (ap (λ (f : Failed). f.read) failed);
+        ∙ sym (ap (λ (f : Failures). f.read) failed);
     butler_writes = write_known answer old.failed old.pair.butler.write_failed new.pair.butler.write_failed (ap (λ (b : ButlerState V). b.write_failed) butler_is ∙ turns.turn.fails.write_failed)
-        under.counts.butler_writes ∙ sym (ap (λ (f : Failed). f.write) failed);
+        under.counts.butler_writes ∙ sym (ap (λ (f : Failures). f.write) failed);
   }
 
   -- nothing was received

@@ -8,9 +8,10 @@ use Rattle.machine_model.specs.Rest.{Phase}
 use Rattle.worker_pair.specs.declared.pair.Pair.{Pair}
 use Rattle.worker_pair.specs.Tied.{IsTied}
 use Rattle.engine_core.specs.declared.run.Run.{Run}
-use Rattle.engine_core.specs.Failed.{has_stopped, nothing_failed}
+use Rattle.run_end.specs.Failures.{has_stopped, nothing_failed}
 use Rattle.engine_core.specs.Letters.{TurnsOn}
-use Rattle.engine_core.specs.Started.{Started, is_played_out}
+use Rattle.run_end.specs.Started.{Started}
+use Rattle.engine_core.specs.Now.{is_played_out}
 use Rattle.engine_core.specs.Shows.{edits_of, made_of}
 use Rattle.engine_core.specs.Leading.{LeadsOn, PlaysOn}
 

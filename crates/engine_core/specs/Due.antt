@@ -6,7 +6,7 @@ use Rattle.control_desk.specs.declared.progress.Progress.{Progress}
 use Rattle.control_desk.specs.Seen.{is_over_by}
 use Rattle.control_desk.specs.Standing.{Standing, Ready, Awaits, Ended, is_ended}
 use Rattle.engine_core.specs.declared.run.Run.{Run}
-use Rattle.engine_core.specs.Started.{is_played_out}
+use Rattle.engine_core.specs.Now.{is_played_out}
 use Rattle.engine_core.specs.declared.engine.Engine.{Engine}
 use Rattle.engine_core.specs.Events.{Course}
 use Rattle.engine_core.specs.Opening.{InRest, Journey}

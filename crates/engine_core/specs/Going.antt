@@ -19,8 +19,9 @@ use Rattle.serial_laws.specs.Standing.{Standing}
 use Rattle.serial_laws.specs.Truth.{AllHold}
 use Rattle.worker_pair.specs.declared.pair.Pair.{Pair}
 use Rattle.worker_pair.specs.Tied.{IsTied}
-use Rattle.engine_core.specs.Failed.{nothing_failed}
-use Rattle.engine_core.specs.Started.{Started, is_played_out}
+use Rattle.run_end.specs.Failures.{nothing_failed}
+use Rattle.run_end.specs.Started.{Started}
+use Rattle.engine_core.specs.Now.{is_played_out}
 use Rattle.engine_core.specs.UnderWay.{IsUnderWay}
 use Rattle.engine_core.specs.declared.engine.Engine.{Engine}
 use Rattle.engine_core.specs.Carrying.{MayCarry}

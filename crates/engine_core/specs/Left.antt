@@ -5,7 +5,7 @@ use Rattle.control_lines.specs.Lines.{LinesState, allowance}
 use Rattle.control_desk.specs.State.{ControlState}
 use Rattle.control_desk.specs.Standing.{is_ended}
 use Rattle.engine_core.specs.declared.run.Run.{Run}
-use Rattle.engine_core.specs.Failed.{has_stopped}
+use Rattle.run_end.specs.Failures.{has_stopped}
 use Rattle.engine_core.specs.declared.engine.Engine.{Engine}
 use Rattle.engine_core.specs.Shows.{made_of}
 

@@ -12,8 +12,9 @@ use Rattle.worker_pair.specs.Tied.{IsTied, rings_of}
 use Rattle.worker_pair.specs.Steps.{Enters, Turns, TurnsOnly, is_idle_answer}
 use Rattle.worker_pair.specs.Plays.{Cycles, Looks}
 use Rattle.engine_core.specs.declared.run.Run.{Run}
-use Rattle.engine_core.specs.Failed.{after_turn, after_cycle, has_stopped, nothing_failed}
-use Rattle.engine_core.specs.Started.{Started, now_of}
+use Rattle.run_end.specs.Failures.{after_turn, after_cycle, has_stopped, nothing_failed}
+use Rattle.run_end.specs.Started.{Started}
+use Rattle.engine_core.specs.Now.{now_of}
 
 module _ {V I W : Type 0} where
   -- ---- what it does

@@ -4,7 +4,7 @@ use Rattle.disk_ring.specs.Sender.{Sender}
 use Rattle.piece_item.specs.declared.take_block.TakeBlock.{TakeBlock}
 use Rattle.worker_pair.specs.Tied.{rings_of}
 use Rattle.engine_core.specs.declared.run.Run.{Run}
-use Rattle.engine_core.specs.LastTurns.{AllReceived}
+use Rattle.run_end.specs.LastTurns.{AllReceived}
 
 -- no ring was found full
 abbrev pub NoneIsLost : List (Sender TakeBlock) → Type 0

@@ -10,11 +10,9 @@ use Rattle.read_ahead.specs.Items.{kinds}
 use Rattle.run_rings.specs.declared.joining.TrackRings.{TrackRings}
 use Rattle.worker_pair.specs.declared.ending.Ending.{Ending}
 use Rattle.worker_pair.specs.Tied.{AreRingsOf, IsTied, captured_of}
-use Rattle.engine_core.specs.declared.failed.Failed.{Failed}
 use Rattle.engine_core.specs.declared.run.Run.{Run}
-use Rattle.engine_core.specs.Failed.{nothing_failed}
-use Rattle.engine_core.specs.declared.closing.Closed.{Closed}
-use Rattle.engine_core.specs.declared.parting.Ended.{Ended}
+use Rattle.run_end.specs.Failures.{nothing_failed}
+use Rattle.run_end.specs.declared.parting.RunEnd.{RunEnd}
 
 -- The core machine carries out the letter B until it moves nothing: so many move something before.
 abbrev pub DrainsTo : Session → ℕ → Core → ℕ → Core → Type 0
@@ -32,20 +30,6 @@ pub record DrainsFrom {V : Type 0} (s : Session) (cycles : ℕ) (c : Core) (e : 
   pub entries : last.entries ≡ c.entries
   pub to_control : last.to_control ≡ c.to_control
 
--- the last turns of the butler, where nothing has failed by then
-abbrev pub DrainsAsMachine : {V : Type 0} → Session → Ending V → Failed → Ending V → Type 0
-DrainsAsMachine s old now new = (c : Core) → nothing_failed now ≡ true → AreRingsOf s c old → DrainsFrom s old.butler.cycles c new
-
-module _ {V I W : Type 0} where
-  -- The process has ended before them: the entries are those of the journal, and the ring to control is the core machine's.
-  pub record ClosesTo (s : Session) (cycles : ℕ) (c : Core) (closed : Closed V I W) : Type 0 where
-    pub drains : DrainsFrom s cycles c closed.ending
-    pub entries : c.entries ≡ reverse (seen_entries closed.stopped.journal.items)
-    pub to_control : c.to_control.sent ≡ reverse (map ack_of closed.ending.ends.to_control.sent)
-
-  abbrev pub ClosesAsMachine : Session → Run V I W → Closed V I W → Type 0
-  ClosesAsMachine s old closed = (c : Core) → nothing_failed closed.failed ≡ true → IsTied s c old.pair → ClosesTo s old.pair.butler.cycles c closed
-
 -- ---- what is left
 
 -- the two rings of a track, joined again
@@ -61,7 +45,7 @@ pub record AreRingsOfTrack (x : TrackState) (r : TrackRings) : Type 0 where
 
 module _ {V I W : Type 0} where
   -- **What a run leaves is this state of the core machine.**
-  pub record IsLeftBy (s : Session) (d : Core) (ended : Ended V I W) : Type 0 where
+  pub record IsLeftBy (s : Session) (d : Core) (ended : RunEnd V I W) : Type 0 where
     pub edits : d.edits ≡ ended.edits.items
     pub entries : d.entries ≡ reverse (seen_entries ended.journal.items)
     pub many : length d.tracks ≡ length ended.rings.items
@@ -69,12 +53,12 @@ module _ {V I W : Type 0} where
     pub to_control : d.to_control.sent ≡ reverse (map ack_of ended.acks.sent)
 
   -- The last turns lead from a state to one that is left.
-  pub record EndsAt (s : Session) (cycles : ℕ) (c : Core) (ended : Ended V I W) : Type 0 where
+  pub record EndsAt (s : Session) (cycles : ℕ) (c : Core) (ended : RunEnd V I W) : Type 0 where
     pub last : Core
     pub turns : ℕ
     pub drains : DrainsTo s cycles c turns last
     pub left : IsLeftBy s last ended
 
   -- **Where nothing has failed, the end of a run is so many letters B of the core machine**, the last of which moves nothing.
-  abbrev pub EndsAsMachine : Session → Run V I W → Ended V I W → Type 0
+  abbrev pub EndsAsMachine : Session → Run V I W → RunEnd V I W → Type 0
   EndsAsMachine s run ended = (c : Core) → nothing_failed ended.failed ≡ true → IsTied s c run.pair → EndsAt s run.pair.butler.cycles c ended

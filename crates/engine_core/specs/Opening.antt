@@ -3,7 +3,7 @@ use Rattle.std.specs.Prelude.{ℕ, List}
 use Rattle.machine_model.specs.Letters.{Letter}
 use Rattle.machine_model.specs.Rest.{Phase}
 use Rattle.control_desk.specs.State.{ControlState}
-use Rattle.engine_core.specs.Started.{Started}
+use Rattle.run_end.specs.Started.{Started}
 
 pub record Opening (V I C W O : Type 0) : Type 0 where
   -- what its workers began with

@@ -13,7 +13,7 @@ use Rattle.engine_core.specs.Fed.{AllHeard, IsFed, PlayAsPlain}
 use Rattle.engine_core.specs.Lost.{NoneIsLost, captures_of}
 use Rattle.engine_core.specs.Opening.{Way, Given, InRest}
 use Rattle.engine_core.specs.Shows.{edits_of, made_of}
-use Rattle.engine_core.specs.Started.{is_played_out}
+use Rattle.engine_core.specs.Now.{is_played_out}
 
 -- the letters that it was given
 abbrev pub letters_of : Way → List Letter

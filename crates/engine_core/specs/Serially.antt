@@ -5,7 +5,7 @@ use Rattle.engine_model.specs.Journal.{Entry}
 use Rattle.engine_model.specs.Truth.{losses}
 use Rattle.run_world.specs.declared.finished.Finished.{Finished}
 use Rattle.engine_core.specs.Fed.{PlayAsPlain}
-use Rattle.engine_core.specs.Finished.{journal_of}
+use Rattle.run_end.specs.Finished.{journal_of}
 
 -- no entry lost a block of a take
 abbrev pub TakesAll : Session → List Entry → Type 0

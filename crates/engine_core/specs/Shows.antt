@@ -6,7 +6,7 @@ use Rattle.process_cycle.specs.ProcessState.{entries_of}
 use Rattle.control_desk.specs.declared.progress.Progress.{Progress}
 use Rattle.control_desk.specs.Seen.{last_settled}
 use Rattle.engine_core.specs.declared.run.Run.{Run}
-use Rattle.engine_core.specs.Started.{is_played_out}
+use Rattle.engine_core.specs.Now.{is_played_out}
 
 module _ {V I W : Type 0} where
   -- the accepted edits

@@ -10,10 +10,11 @@ use Rattle.worker_pair.specs.Begun.{at_first, playing_at}
 use Rattle.worker_pair.specs.Plays.{OnlyTheMaster}
 use Rattle.worker_pair.specs.Runs.{HearsInput, Rests, Runs}
 use Rattle.engine_core.specs.declared.run.Run.{Run}
-use Rattle.engine_core.specs.Failed.{has_stopped, after_cycle}
-use Rattle.engine_core.specs.Started.{Started, now_of, AreCounted}
-use Rattle.engine_core.specs.Depths.{HaveDepths}
-use Rattle.engine_core.specs.CutOff.{IsCutAtHead, IsCutInCycle, IsCutAtEnd, HoldsAll}
+use Rattle.run_end.specs.Failures.{has_stopped, after_cycle}
+use Rattle.run_end.specs.Started.{Started}
+use Rattle.engine_core.specs.Now.{now_of, AreCounted}
+use Rattle.run_end.specs.Depths.{HaveDepths}
+use Rattle.run_end.specs.CutOff.{IsCutAtHead, IsCutInCycle, IsCutAtEnd, HoldsAll}
 
 module _ {V I W : Type 0} where
   -- The workers did nothing yet, and have what the run began with.

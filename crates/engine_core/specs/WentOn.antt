@@ -2,8 +2,8 @@
 use Rattle.std.specs.Prelude.{◌≡◌, true}
 use Rattle.serial_laws.specs.Truth.{Grows}
 use Rattle.engine_core.specs.declared.run.Run.{Run}
-use Rattle.engine_core.specs.Failed.{nothing_failed}
-use Rattle.engine_core.specs.Started.{is_played_out}
+use Rattle.run_end.specs.Failures.{nothing_failed}
+use Rattle.engine_core.specs.Now.{is_played_out}
 use Rattle.engine_core.specs.Shows.{made_of}
 
 module _ {V I W : Type 0} where

@@ -1,24 +1,76 @@
 //! A run begins: its workers with all their memory, its control, and the lists that it will leave.
 ghost use Rattle.std.specs.Prelude.{◌≡◌, IfOk, IfErr};
+ghost use Rattle.run_end.specs.Beginning.{MayRun};
 ghost use Rattle.engine_core.specs.Opening.{Opening};
-ghost use Rattle.engine_core.specs.Beginning.{HasBegun, MayRun, control_of, opening_of};
+ghost use Rattle.engine_core.specs.Beginning.{HasBegun, control_spoken, opening_of, spoken_of, start_of, world_of};
 
 use crate::engine::Engine;
-use crate::lists::Lists;
 use crate::run::Run;
 use control_desk::Control;
+use run_end::RunLists;
 use run_world::{Opened, Script};
 use ses_io::{Media, Sink, Source, World};
 use std::alloc::Global;
 use worker_pair::{Pair, Start};
 
+/// What control is given of a run: where its lines come from, where its replies go, and its script, where it says one.
+#[derive(Drop)]
+pub(crate) struct Spoken<C, O> {
+    pub(crate) lines: C,
+    pub(crate) out: O,
+    pub(crate) script: Option<Script>,
+}
+
 // Control that says a script, or that reads its lines.
-fn control<C: Source, O: Sink>(source: C, out: O, script: Option<Script>) -> Control<C, O>
-    ensures { result ≡ control_of source out script }
+fn control<C: Source, O: Sink>(spoken: Spoken<C, O>) -> Control<C, O>
+    ensures { result ≡ control_spoken spoken }
 {
-    match script {
-        Some(script) => Control::scripted(source, out, script.from),
-        None => Control::reading(source, out),
+    match spoken.script {
+        Some(script) => Control::scripted(spoken.lines, spoken.out, script.from),
+        None => Control::reading(spoken.lines, spoken.out),
+    }
+}
+
+// What was opened, apart: what the workers begin with, and what control is given.
+fn apart<M, I, C, W, O>(o: Opened<M, I, C, W, O>) -> (Start<M, I, W>, Spoken<C, O>)
+    ensures start { result.0 ≡ start_of o }
+    ensures spoken { result.1 ≡ spoken_of o }
+{
+    let World {
+        media,
+        input,
+        control: lines,
+        master,
+        out,
+    } = o.world;
+    let start = Start {
+        edition: o.edition,
+        sources: o.sources,
+        cycles: o.cycles,
+        form: o.form,
+        media,
+        input,
+        master,
+    };
+    let spoken = Spoken {
+        lines,
+        out,
+        script: o.script,
+    };
+    (start, spoken)
+}
+
+// The world again.
+fn together<M, I, C, W, O>(given: (M, I, W), spoken: Spoken<C, O>) -> World<M, I, C, W, O>
+    ensures { result ≡ world_of given spoken }
+{
+    let (media, input, master) = given;
+    World {
+        media,
+        input,
+        control: spoken.lines,
+        master,
+        out: spoken.out,
     }
 }
 
@@ -27,7 +79,7 @@ fn control<C: Source, O: Sink>(source: C, out: O, script: Option<Script>) -> Con
 pub(crate) fn begin<M: Media, I: Source, C: Source, W: Sink, O: Sink>(
     alloc: Global,
     o: Opened<M, I, C, W, O>,
-) -> Result<(Engine<M, I, C, W, O>, Lists), World<M, I, C, W, O>>
+) -> Result<(Engine<M, I, C, W, O>, RunLists), World<M, I, C, W, O>>
     ghost on: { Opening M I C W O }
     requires may { MayRun M.outside o }
     requires told { on ≡ opening_of M.outside I.outside W.outside o }
@@ -35,53 +87,19 @@ pub(crate) fn begin<M: Media, I: Source, C: Source, W: Sink, O: Sink>(
         on b.0 b.1) }
     ensures back { IfErr result (λ w. w ≡ o.world) }
 {
-    let Opened {
-        world,
-        edition,
-        sources,
-        form,
-        cycles,
-        script,
-    } = o;
-    let World {
-        media,
-        input,
-        control: lines,
-        master,
-        out,
-    } = world;
-    let Ok(lists) = Lists::new(alloc, edition.session().tracks.len() as u32) else {
-        return Err(World {
-            media,
-            input,
-            control: lines,
-            master,
-            out,
-        });
+    let tracks = o.edition.session().tracks.len() as u32;
+    let Ok(lists) = RunLists::new(alloc, tracks) else {
+        return Err(o.world);
     };
-    let start = Start {
-        edition,
-        sources,
-        cycles,
-        form,
-        media,
-        input,
-        master,
-    };
+    let (start, spoken) = apart(o);
     match Pair::new(alloc, start) {
         Ok(pair) => {
             let engine = Engine {
                 run: Run::begin(pair),
-                control: control(lines, out, script),
+                control: control(spoken),
             };
             Ok((engine, lists))
         }
-        Err((media, input, master)) => Err(World {
-            media,
-            input,
-            control: lines,
-            master,
-            out,
-        }),
+        Err(given) => Err(together(given, spoken)),
     }
 }

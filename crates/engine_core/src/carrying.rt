@@ -1,5 +1,5 @@
 //! The letter C: what control awaits is answered where it is over, and then the next line is carried out.
-ghost use Rattle.engine_core.specs.Started.{Started};
+ghost use Rattle.run_end.specs.Started.{Started};
 ghost use Rattle.engine_core.specs.Carrying.{CarriesALine, PublishesAsMachine};
 ghost use Rattle.engine_core.specs.Going.{MayGoOn};
 

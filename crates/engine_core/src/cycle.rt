@@ -1,6 +1,6 @@
 //! A serial cycle: the process enters, the butler serves it by turns with looks in between, and the process makes it.
 ghost use Rattle.machine_model.specs.Rest.{BeforeTurn, BeforeEntry};
-ghost use Rattle.engine_core.specs.Started.{Started};
+ghost use Rattle.run_end.specs.Started.{Started};
 ghost use Rattle.engine_core.specs.UnderWay.{IsUnderWay};
 ghost use Rattle.engine_core.specs.Fed.{Feeds, PlaysPlain};
 ghost use Rattle.engine_core.specs.Lost.{CapturesStand, IsFlushed, LosesNone};

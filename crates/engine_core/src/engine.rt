@@ -1,6 +1,6 @@
 //! A run with its control, and what control sees of it.
 ghost use Rattle.std.specs.Prelude.{◌≡◌, ◌≤◌};
-ghost use Rattle.engine_core.specs.Started.{Started};
+ghost use Rattle.run_end.specs.Started.{Started};
 ghost use Rattle.engine_core.specs.UnderWay.{IsUnderWay};
 ghost use Rattle.std.specs.Prelude.{reverse};
 ghost use Rattle.cycle_journal.specs.JournalView.{seen_entries};

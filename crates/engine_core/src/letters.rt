@@ -2,7 +2,8 @@
 ghost use Rattle.std.specs.Prelude.{◌≡◌, true};
 ghost use Rattle.process_cycle.specs.Looked.{HasLooked};
 ghost use Rattle.worker_pair.specs.Begun.{playing_at};
-ghost use Rattle.engine_core.specs.Started.{Started, now_of};
+ghost use Rattle.run_end.specs.Started.{Started};
+ghost use Rattle.engine_core.specs.Now.{now_of};
 ghost use Rattle.engine_core.specs.UnderWay.{IsUnderWay};
 ghost use Rattle.worker_pair.specs.Steps.{is_idle_answer};
 ghost use Rattle.engine_core.specs.Letters.{TurnsOn, EntersOn, GathersOn, CyclesOn, TurnIsB, EnteringIsE, GatheringIsG, CycleIsP};

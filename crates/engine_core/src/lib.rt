@@ -4,17 +4,12 @@
 
 mod beginning;
 mod carrying;
-mod closing;
 mod cycle;
-mod draining;
 mod engine;
 mod events;
-mod failed;
 mod finishing;
 mod letters;
-mod lists;
 mod mastering;
-mod parting;
 mod rest;
 mod run;
 mod running;

@@ -1,11 +1,11 @@
 //! How the master of a run begins and ends.
 ghost use Rattle.std.specs.Prelude.{◌≡◌, false};
-ghost use Rattle.engine_core.specs.Started.{Started};
+ghost use Rattle.run_end.specs.Started.{Started};
 ghost use Rattle.engine_core.specs.UnderWay.{IsUnderWay, IsFresh, IsWritten};
 ghost use Rattle.worker_pair.specs.Plays.{OnlyTheMaster};
 
-use crate::failed::Failed;
 use crate::run::Run;
+use run_end::Failures;
 use ses_io::{Media, Sink, Source};
 use worker_pair::Pair;
 
@@ -21,7 +21,7 @@ impl<M: Media, I: Source, W: Sink> Run<M, I, W> {
         let answer = pair.begin();
         Run {
             pair,
-            failed: Failed::default().after_cycle(&answer),
+            failed: Failures::default().after_cycle(&answer),
         }
     }
 

@@ -1,7 +1,7 @@
 //! The serial rest of a run: a line where one is due, else a cycle, until neither is left.
 ghost use Rattle.std.specs.Prelude.{◌≡◌};
 ghost use Rattle.machine_model.specs.Rest.{Between};
-ghost use Rattle.engine_core.specs.Started.{Started};
+ghost use Rattle.run_end.specs.Started.{Started};
 ghost use Rattle.engine_core.specs.UnderWay.{IsUnderWay};
 ghost use Rattle.engine_core.specs.Events.{Course, given};
 ghost use Rattle.engine_core.specs.Going.{IsGoing};

@@ -1,8 +1,8 @@
 //! The two workers of a run between two letters, and what has failed.
 ghost use Rattle.std.specs.Prelude.{◌≡◌};
-ghost use Rattle.engine_core.specs.Started.{is_played_out};
+ghost use Rattle.engine_core.specs.Now.{is_played_out};
 
-use crate::failed::Failed;
+use run_end::Failures;
 use ses_io::{Media, Sink, Source};
 use worker_pair::Pair;
 
@@ -10,7 +10,7 @@ use worker_pair::Pair;
 #[derive(Drop)]
 pub struct Run<M: Media, I: Source, W: Sink> {
     pub pair: Pair<M, I, W>,
-    pub failed: Failed,
+    pub failed: Failures,
 }
 
 impl<M: Media, I: Source, W: Sink> Run<M, I, W> {

@@ -1,20 +1,21 @@
 //! A run from its first event to its end.
 ghost use Rattle.std.specs.Prelude.{◌≡◌, IfOk, IfErr};
+ghost use Rattle.run_end.specs.Beginning.{MayRun, started_of};
+ghost use Rattle.run_end.specs.Finished.{FaultsAreCounted, LeavesRings, SendsGenuine, run_end_of};
+ghost use Rattle.run_end.specs.Mastered.{InputGave, MakesItsCycles, WritesTheMaster};
+ghost use Rattle.run_end.specs.Takes.{LeavesTakes};
+ghost use Rattle.engine_core.specs.Beginning.{course_of};
 ghost use Rattle.engine_core.specs.Events.{Course};
-ghost use Rattle.engine_core.specs.Takes.{LeavesTakes};
-ghost use Rattle.engine_core.specs.Beginning.{MayRun, course_of, started_of};
-ghost use Rattle.engine_core.specs.Finished.{FaultsAreCounted, LeavesRings, SendsGenuine, ended_of, finished_of};
 ghost use Rattle.engine_core.specs.Lines.{GoesByItsLines};
-ghost use Rattle.engine_core.specs.Mastered.{MakesItsCycles, ReadsItsInput, WritesTheMaster};
-ghost use Rattle.engine_core.specs.Played.{IsPlayed};
+ghost use Rattle.engine_core.specs.Played.{IsPlayed, finished_of};
 
 use crate::beginning::begin;
 use crate::engine::Engine;
 use crate::finishing::finish;
-use crate::parting::Ended;
 use crate::rest::play_on;
 use control_desk::ControlParts;
 use master_blocks::the_master_is_its_blocks;
+use run_end::RunEnd;
 use run_letters::Event;
 use run_world::{Faults, Finished, Opened};
 use ses_io::{Media, Sink, Source, World};
@@ -22,7 +23,7 @@ use std::alloc::Global;
 
 // What a run leaves, with what control leaves.
 fn finished<M, I, C, W, O>(
-    ended: Ended<M, I, W>,
+    ended: RunEnd<M, I, W>,
     control: ControlParts<C, O>,
 ) -> Finished<M, I, C, W, O>
     ensures { result ≡ finished_of ended control }
@@ -93,10 +94,9 @@ pub fn run_events<M: Media, I: Source, C: Source, W: Sink, O: Sink>(
     ensures master { M.outside.tells → W.outside.tells
         → IfOk result (WritesTheMaster M.outside W.outside o) }
     ensures cycles { IfOk result (MakesItsCycles o) }
-    ensures input { IfOk result (ReadsItsInput I.outside
-        (started_of M.outside I.outside W.outside o)) }
+    ensures input { IfOk result (InputGave I.outside o) }
     ensures takes { IfOk result (λ f. LeavesTakes M.outside I.outside
-        (started_of M.outside I.outside W.outside o) (ended_of f)) }
+        (started_of M.outside I.outside W.outside o) (run_end_of f)) }
     ensures counts { IfOk result
         (FaultsAreCounted M.outside I.outside C.outside W.outside O.outside o) }
     ensures back { IfErr result (λ w. w ≡ o.world) }

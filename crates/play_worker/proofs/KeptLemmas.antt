@@ -15,7 +15,7 @@ use Rattle.cycle_journal.specs.declared.note.Take.{Take}
 use Rattle.cycle_journal.specs.declared.note.Take.TheVariants.{Off, Taken, Lost}
 use Rattle.edition_log.specs.EditionState.{EditionState as Edition}
 use Rattle.track_capture.specs.Counted.{HasCaptured}
-use Rattle.process_cycle.specs.declared.ends.ProcessEnds.{ProcessEnds}
+use Rattle.process_ends.specs.declared.ends.ProcessEnds.{ProcessEnds}
 use Rattle.process_cycle.specs.declared.fault.CycleFault.{CycleFault}
 use Rattle.process_cycle.specs.declared.fault.CycleFault.TheVariants.{InputFault, MasterFault}
 use Rattle.process_cycle.specs.ProcessState.{Playing, ProcessState}

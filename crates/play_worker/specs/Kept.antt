@@ -3,7 +3,7 @@ use Rattle.std.specs.Prelude.{◌≡◌, ℕ, length, slice_get, Some}
 use mathlib.Core.List.{IsPrefix}
 use Rattle.disk_ring.specs.Sender.{Sender, GoesOnIn}
 use Rattle.piece_item.specs.declared.take_block.TakeBlock.{TakeBlock}
-use Rattle.process_cycle.specs.declared.ends.ProcessEnds.{ProcessEnds}
+use Rattle.process_ends.specs.declared.ends.ProcessEnds.{ProcessEnds}
 use Rattle.process_cycle.specs.ProcessState.{ProcessState}
 use Rattle.play_worker.specs.Patient.{AllGoOn}
 

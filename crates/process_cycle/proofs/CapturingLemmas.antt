@@ -12,7 +12,7 @@ use Rattle.piece_item.specs.declared.take_block.TakeBlock.{TakeBlock}
 use Rattle.cycle_journal.specs.declared.note.Note.{Note}
 use Rattle.track_capture.specs.declared.capture.TrackCapture.{TrackCapture}
 use Rattle.track_capture.specs.Counted.{Counts, FitsRing}
-use Rattle.process_cycle.specs.Ends.{block_of}
+use Rattle.process_ends.specs.Ends.{block_of}
 use Rattle.process_cycle.specs.Cycles.{Captures}
 
 -- what is told of each track: its count, its ring and its note

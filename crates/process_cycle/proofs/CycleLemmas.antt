@@ -38,7 +38,7 @@ use Rattle.track_playback.proofs.TrackLemmas.{played_later}
 use Rattle.master_blocks.specs.State.{IsMasterOf}
 use Rattle.process_cycle.specs.Captured.{Hears}
 use Rattle.process_cycle.specs.Cycles.{Acknowledges, MakesEntry, MayCycle, ReadsBlock, block_after, next_bytes, next_state}
-use Rattle.process_cycle.specs.Ends.{block_of}
+use Rattle.process_ends.specs.Ends.{block_of}
 use Rattle.process_cycle.specs.Looked.{IsLookedUp}
 use Rattle.process_cycle.specs.Making.{IsMade}
 use Rattle.process_cycle.specs.Playing.{IsPlaying, IsRecorded}

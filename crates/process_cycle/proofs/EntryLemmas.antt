@@ -40,7 +40,7 @@ use Rattle.track_playback.specs.Heard.{AreHeard, IsStillHeld, entry_made}
 use Rattle.track_playback.specs.Played.{IsPlayed}
 use Rattle.track_playback.specs.SpareBoxes.{received_kinds}
 use Rattle.process_cycle.specs.Cycles.{MayCycle}
-use Rattle.process_cycle.specs.Ends.{HaveRooms, block_of}
+use Rattle.process_ends.specs.Ends.{HaveRooms, block_of}
 use Rattle.process_cycle.specs.Making.{AllCaptured}
 use Rattle.process_cycle.specs.Playing.{IsRecorded}
 use Rattle.process_cycle.specs.ProcessState.{ProcessState, Playing, entries_of, position_of}

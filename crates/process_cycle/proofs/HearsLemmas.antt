@@ -17,9 +17,9 @@ use Rattle.piece_item.specs.declared.butler_ends.ButlerEnds.{ButlerEnds}
 use Rattle.capture_flush.specs.Blocks.{block_of, taken_in, taken_from, taken_blocks}
 use Rattle.track_capture.specs.Picked.{picked, sample_of}
 use Rattle.track_capture.proofs.PickLemmas.{input_sample, same_frames}
-use Rattle.process_cycle.specs.declared.ends.ProcessEnds.{ProcessEnds}
+use Rattle.process_ends.specs.declared.ends.ProcessEnds.{ProcessEnds}
 use Rattle.process_cycle.specs.Captured.{AreOfInput, Hears}
-use Rattle.process_cycle.specs.Ends.{AreOtherEnds, EndsMeet}
+use Rattle.process_ends.specs.Ends.{AreOtherEnds, EndsMeet}
 use Rattle.process_cycle.specs.ProcessState.{Playing}
 use Rattle.process_cycle.proofs.CapturedLemmas.{of_input_more}
 use Rattle.process_cycle.proofs.PromiseLemmas.{MakesOne}

@@ -9,7 +9,6 @@ pub mod PromiseLemmas
 pub mod MeetPromiseLemmas
 pub mod HearsLemmas
 pub mod MasterLemmas
-mod MeetLemmas
 mod PutLemmas
 mod BeginLemmas
 mod CapturingLemmas

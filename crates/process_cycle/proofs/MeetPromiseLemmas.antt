@@ -17,8 +17,8 @@ use Rattle.piece_item.specs.declared.butler_ends.ButlerEnds.{ButlerEnds}
 use Rattle.piece_item.specs.Views as views
 use Rattle.capture_flush.specs.Blocks as blocks
 use Rattle.track_playback.specs.SpareBoxes.{received_kinds}
-use Rattle.process_cycle.specs.declared.ends.ProcessEnds.{ProcessEnds}
-use Rattle.process_cycle.specs.Ends.{AllMeet, AreOtherEnds, EndsMeet}
+use Rattle.process_ends.specs.declared.ends.ProcessEnds.{ProcessEnds}
+use Rattle.process_ends.specs.Ends.{AllMeet, AreOtherEnds, EndsMeet}
 use Rattle.process_cycle.specs.Told.{IsToldOf}
 use Rattle.process_cycle.specs.Captured.{AreCaptured}
 use Rattle.process_cycle.specs.ProcessState.{Playing}

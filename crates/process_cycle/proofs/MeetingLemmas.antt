@@ -18,8 +18,8 @@ use Rattle.track_playback.specs.declared.playback.TrackPlayback.{TrackPlayback}
 use Rattle.track_playback.specs.declared.play_position.PlayPosition.{PlayPosition}
 use Rattle.track_playback.specs.Played.{IsPlayed, KnowsTheEnds}
 use Rattle.track_playback.specs.SpareBoxes.{received_items, received_kinds}
-use Rattle.process_cycle.specs.declared.ends.ProcessEnds.{ProcessEnds}
-use Rattle.process_cycle.specs.Ends.{AllMeet, EndsMeet, block_of, AreOtherEnds}
+use Rattle.process_ends.specs.declared.ends.ProcessEnds.{ProcessEnds}
+use Rattle.process_ends.specs.Ends.{AllMeet, EndsMeet, block_of, AreOtherEnds}
 use Rattle.process_cycle.specs.Looked.{HasLooked, IsLookedUp}
 use Rattle.process_cycle.specs.Meetings.{MeetsOthers}
 use Rattle.process_cycle.specs.Playing.{IsPlaying, IsOpenIn, IsRecorded}

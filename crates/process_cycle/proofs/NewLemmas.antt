@@ -29,8 +29,8 @@ use Rattle.track_playback.specs.declared.playback.SpareBox.TheVariants.{Husk, He
 use Rattle.track_playback.specs.declared.playback.TrackPlayback.{TrackPlayback}
 use Rattle.track_playback.specs.SpareBoxes.{IsHusk, HasRoom, HoldsTheLast, offers}
 use Rattle.track_playback.specs.Played.{IsNewPlayback, IsPlayed, KnowsTheEnds}
-use Rattle.process_cycle.specs.declared.ends.ProcessEnds.{ProcessEnds}
-use Rattle.process_cycle.specs.Ends.{AreNew, IsNewOut, IsNewIn, block_of}
+use Rattle.process_ends.specs.declared.ends.ProcessEnds.{ProcessEnds}
+use Rattle.process_ends.specs.Ends.{AreNew, IsNewOut, IsNewIn, block_of}
 use Rattle.process_cycle.specs.ProcessState.{ProcessState, Playing}
 use Rattle.process_cycle.specs.Playing.{IsOpenIn, HasBegun}
 use Rattle.process_cycle.proofs.PromiseLemmas.{promises_first}

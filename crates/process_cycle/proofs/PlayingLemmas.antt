@@ -38,7 +38,7 @@ use Rattle.track_playback.specs.SpareBoxes.{received_items, received_kinds}
 use Rattle.track_playback.proofs.TrackLemmas.{plays_on, played_later}
 use Rattle.process_cycle.specs.declared.process.Look.{Look}
 use Rattle.process_cycle.specs.declared.process.Look.TheVariants.{Ready, Short}
-use Rattle.process_cycle.specs.Ends.{block_of}
+use Rattle.process_ends.specs.Ends.{block_of}
 use Rattle.process_cycle.specs.Looked.{Finds, HasLooked, LookAnswers, LooksAtAll, rolled_by_now}
 use Rattle.process_cycle.specs.Playing.{IsPlaying}
 use Rattle.process_cycle.specs.ProcessState.{ProcessState, Playing, entered, entries_of, position_of, items_of}

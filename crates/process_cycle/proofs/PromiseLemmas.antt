@@ -34,8 +34,8 @@ use Rattle.capture_flush.specs.Blocks as blocks
 use Rattle.track_capture.specs.Counted.{HasCaptured}
 use Rattle.track_playback.specs.declared.play_position.PlayPosition.{PlayPosition}
 use Rattle.track_playback.specs.SpareBoxes.{received_kinds}
-use Rattle.process_cycle.specs.declared.ends.ProcessEnds.{ProcessEnds}
-use Rattle.process_cycle.specs.Ends.{block_of, IsNewIn, AreNew}
+use Rattle.process_ends.specs.declared.ends.ProcessEnds.{ProcessEnds}
+use Rattle.process_ends.specs.Ends.{block_of, IsNewIn, AreNew}
 use Rattle.process_cycle.specs.Told.{IsToldOf}
 use Rattle.process_cycle.specs.ProcessState.{Playing, entered}
 use Rattle.process_cycle.specs.Promised.{Promises}

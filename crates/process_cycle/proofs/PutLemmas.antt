@@ -15,7 +15,7 @@ use Rattle.route_mix.specs.Desks.{DeskState}
 use Rattle.master_blocks.specs.State.{MasterState, IsMasterOf}
 use Rattle.track_playback.specs.declared.play_position.PlayPosition.{PlayPosition}
 use Rattle.track_playback.specs.SpareBoxes.{received_items}
-use Rattle.process_cycle.specs.Ends.{HaveRooms, block_of}
+use Rattle.process_ends.specs.Ends.{HaveRooms, block_of}
 use Rattle.process_cycle.specs.Heard.{Listened}
 
 -- what a block of a track has at a place, as it was put or as it was received

@@ -5,8 +5,8 @@ use Rattle.std.proofs.lemmas.Option.{none-some, slice_get_within, get_or_from_sl
 use Rattle.disk_ring.specs.Sender.{Sender}
 use Rattle.disk_ring.specs.Receiver.{Receiver}
 use Rattle.piece_item.specs.declared.butler_ends.ButlerEnds.{ButlerEnds}
-use Rattle.process_cycle.specs.declared.ends.ProcessEnds.{ProcessEnds}
-use Rattle.process_cycle.specs.Ends.{AllMeet, AreOfOneRing, AreOtherEnds, EndsMeet, Meet}
+use Rattle.process_ends.specs.declared.ends.ProcessEnds.{ProcessEnds}
+use Rattle.process_ends.specs.Ends.{AllMeet, AreOfOneRing, AreOtherEnds, EndsMeet, Meet}
 use Rattle.ring_meeting.specs.Told.{AreTold}
 
 -- what is at a place of one list has its like in one that is as long

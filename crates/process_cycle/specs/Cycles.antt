@@ -25,7 +25,7 @@ use Rattle.track_capture.specs.declared.capture.TrackCapture.{TrackCapture}
 use Rattle.track_capture.specs.Counted.{Counts, FitsRing, HasCaptured}
 use Rattle.process_cycle.specs.declared.fault.CycleFault.{CycleFault}
 use Rattle.process_cycle.specs.declared.fault.CycleFault.TheVariants.{InputFault, MasterFault}
-use Rattle.process_cycle.specs.Ends.{block_of}
+use Rattle.process_ends.specs.Ends.{block_of}
 use Rattle.process_cycle.specs.ProcessState.{ProcessState, Playing, entries_of, kinds_of, items_of}
 use Rattle.process_cycle.specs.Playing.{IsPlaying}
 use Rattle.process_cycle.specs.Looked.{HasLooked}

@@ -11,7 +11,7 @@ use Rattle.piece_item.specs.declared.item.Item.{Item}
 use Rattle.piece_item.specs.declared.take_block.TakeBlock.{TakeBlock}
 use Rattle.capture_flush.specs.Finished.{IsCounted}
 use Rattle.track_playback.specs.SpareBoxes.{received_kinds}
-use Rattle.process_cycle.specs.declared.ends.ProcessEnds.{ProcessEnds}
+use Rattle.process_ends.specs.declared.ends.ProcessEnds.{ProcessEnds}
 use Rattle.process_cycle.specs.ProcessState.{Playing}
 use Rattle.process_cycle.specs.Promised.{Promises}
 use Rattle.process_cycle.specs.Told.{AreTold, IsSettledBy}

@@ -1,5 +1,4 @@
 -- What contracts see of a process, what it promises of its rings and its journal, and what its calls do.
-pub mod Ends
 pub mod Told
 pub mod Captured
 pub mod ProcessState

@@ -2,7 +2,7 @@
 use Rattle.std.specs.Prelude.{◌≡◌}
 use Rattle.ses_io.specs.Outside.{SourceOutside, SinkOutside}
 use Rattle.piece_item.specs.declared.butler_ends.ButlerEnds.{ButlerEnds}
-use Rattle.process_cycle.specs.Ends.{EndsMeet}
+use Rattle.process_ends.specs.Ends.{EndsMeet}
 use Rattle.process_cycle.specs.Looked.{HasLooked}
 use Rattle.process_cycle.specs.Playing.{IsPlaying}
 use Rattle.process_cycle.specs.ProcessState.{ProcessState, Playing}

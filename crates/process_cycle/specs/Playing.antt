@@ -17,8 +17,8 @@ use Rattle.track_capture.specs.declared.capture.TrackCapture.{TrackCapture}
 use Rattle.track_capture.specs.Counted.{Counts, FitsRing}
 use Rattle.track_playback.specs.declared.playback.TrackPlayback.{TrackPlayback}
 use Rattle.track_playback.specs.Played.{IsPlayed}
-use Rattle.process_cycle.specs.declared.ends.ProcessEnds.{ProcessEnds}
-use Rattle.process_cycle.specs.Ends.{block_of}
+use Rattle.process_ends.specs.declared.ends.ProcessEnds.{ProcessEnds}
+use Rattle.process_ends.specs.Ends.{block_of}
 use Rattle.process_cycle.specs.Captured.{Hears}
 use Rattle.process_cycle.specs.ProcessState.{ProcessState, Playing, entries_of, position_of, sound_of}
 use Rattle.process_cycle.specs.Promised.{Promises}

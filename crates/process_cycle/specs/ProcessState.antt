@@ -15,7 +15,7 @@ use Rattle.track_capture.specs.declared.capture.TrackCapture.{TrackCapture}
 use Rattle.track_playback.specs.declared.playback.TrackPlayback.{TrackPlayback}
 use Rattle.track_playback.specs.declared.play_position.PlayPosition.{PlayPosition}
 use Rattle.track_playback.specs.SpareBoxes.{received_items, received_kinds}
-use Rattle.process_cycle.specs.declared.ends.ProcessEnds.{ProcessEnds}
+use Rattle.process_ends.specs.declared.ends.ProcessEnds.{ProcessEnds}
 
 pub record ProcessState (I W : Type 0) : Type 0 where
   pub input : InputState I

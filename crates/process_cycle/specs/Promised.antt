@@ -17,7 +17,7 @@ use Rattle.piece_item.specs.declared.item.Item as boxed
 use Rattle.piece_item.specs.declared.take_block.TakeBlock.{TakeBlock}
 use Rattle.master_blocks.specs.Bytes.{head_bytes, entry_bytes}
 use Rattle.track_playback.specs.SpareBoxes.{received_kinds}
-use Rattle.process_cycle.specs.declared.ends.ProcessEnds.{ProcessEnds}
+use Rattle.process_ends.specs.declared.ends.ProcessEnds.{ProcessEnds}
 use Rattle.process_cycle.specs.Told.{IsToldOf}
 use Rattle.process_cycle.specs.Captured.{AreCaptured}
 use Rattle.process_cycle.specs.ProcessState.{ProcessState, Playing, entries_of, items_of}

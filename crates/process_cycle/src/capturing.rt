@@ -7,7 +7,7 @@ ghost use Rattle.piece_item.specs.declared.take_block.TakeBlock.{TakeBlock as Ta
 ghost use Rattle.cycle_journal.specs.declared.note.Note.{Note as NoteRecord};
 ghost use Rattle.track_capture.specs.declared.capture.TrackCapture.{TrackCapture as TrackCaptureRecord};
 ghost use Rattle.track_capture.specs.Counted.{Counts, FitsRing};
-ghost use Rattle.process_cycle.specs.Ends.{block_of};
+ghost use Rattle.process_ends.specs.Ends.{block_of};
 ghost use Rattle.process_cycle.specs.Cycles.{Captures};
 
 use cycle_journal::Note;

@@ -9,16 +9,12 @@
 
 mod ack_sender;
 mod capturing;
-mod ends;
 mod fault;
 mod laws;
-mod meeting;
 mod position;
 mod process;
 mod putting;
 
-pub use ends::ProcessEnds;
 pub use fault::CycleFault;
 pub use laws::{promises_are_counted, promises_are_truthful, told_is_settled};
-pub use meeting::meet_ends;
 pub use process::{Look, Process, ProcessParts};

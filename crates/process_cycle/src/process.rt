@@ -3,7 +3,7 @@
 ghost use Rattle.std.specs.Prelude.{◌≡◌, ◌≤◌, IfOk, IfErr, IfSome};
 ghost use Rattle.std.specs.List.{list_any};
 ghost use Rattle.wav_codec.specs.Info.{IsFound};
-ghost use Rattle.process_cycle.specs.Ends.{AreNew};
+ghost use Rattle.process_ends.specs.Ends.{AreNew};
 ghost use Rattle.process_cycle.specs.Playing.{HasBegun};
 
 mod cycle;
@@ -12,12 +12,12 @@ mod parts;
 mod stores;
 
 use crate::ack_sender::AckSender;
-use crate::ends::ProcessEnds;
 use cycle_journal::Journal;
 use edition_log::Edition;
 use input_blocks::InputBlocks;
 use master_blocks::MasterBlocks;
 pub use parts::ProcessParts;
+use process_ends::ProcessEnds;
 use ses_io::{FixedList, Sink, Source};
 use std::alloc::Global;
 use std::marker::Model;

@@ -8,7 +8,7 @@ ghost use Rattle.track_playback.specs.Heard.{AreHeard, IsAt};
 ghost use Rattle.track_playback.specs.SpareBoxes.{received_items};
 ghost use Rattle.master_blocks.specs.State.{IsMasterOf};
 ghost use Rattle.master_blocks.specs.Rolled.{ArePut};
-ghost use Rattle.process_cycle.specs.Ends.{HaveRooms};
+ghost use Rattle.process_ends.specs.Ends.{HaveRooms};
 ghost use Rattle.process_cycle.specs.Heard.{Listened, heard_bytes};
 
 use cycle_journal::State;

@@ -10,7 +10,7 @@ use Rattle.session_model.specs.declared.edit.Edit.{Edit}
 use Rattle.edition_log.specs.EditionState.{EditionState as Edition}
 use Rattle.process_cycle.specs.ProcessState.{ProcessState, Playing, entered}
 use Rattle.wav_codec.specs.declared.info.WavInfo.{WavInfo}
-use Rattle.process_cycle.specs.declared.ends.ProcessEnds.{ProcessEnds}
+use Rattle.process_ends.specs.declared.ends.ProcessEnds.{ProcessEnds}
 use Rattle.process_cycle.specs.Playing.{HasBegun, IsPlaying}
 use Rattle.process_cycle.specs.Looked.{MayLook, HasLooked}
 use Rattle.process_tests.specs.Bench.{IsOnBench, IsOpened, Stand, playing_by}

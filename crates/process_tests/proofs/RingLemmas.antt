@@ -7,7 +7,7 @@ use Rattle.disk_ring.specs.Sender.{Sender}
 use Rattle.disk_ring.specs.Receiver.{Receiver}
 use Rattle.session_model.specs.declared.route.Route.{Route}
 use Rattle.session_model.specs.declared.session.Session.{Session}
-use Rattle.process_cycle.specs.Ends.{block_of, IsNewIn, IsNewOut}
+use Rattle.process_ends.specs.Ends.{block_of, IsNewIn, IsNewOut}
 use Rattle.run_rings.specs.Rings.{EachHasARing}
 use Rattle.run_rings.proofs.LawLemmas.{each_in, each_out}
 

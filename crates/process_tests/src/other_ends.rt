@@ -2,12 +2,12 @@
 //! acknowledgements arrive.
 ghost use Rattle.std.specs.Prelude.{◌≡◌, IfSome};
 ghost use Rattle.session_model.specs.Valid.{IsValid};
-ghost use Rattle.process_cycle.specs.Ends.{AreNew};
+ghost use Rattle.process_ends.specs.Ends.{AreNew};
 ghost use Rattle.run_rings.specs.Rings.{AreNewRunEnds};
 
 use disk_ring::{RingIn, RingOut};
 use piece_item::{Ack, ButlerEnds, Item, Kind, TakeBlock};
-use process_cycle::ProcessEnds;
+use process_ends::ProcessEnds;
 use run_rings::{RunEnds, new_ends_fit};
 use ses_io::NoMemory;
 use session_model::Session;

@@ -8,7 +8,7 @@ use Rattle.disk_ring.specs.Rings.{Joined, Whole, joined_of}
 use Rattle.piece_item.specs.declared.item.Item.{Item}
 use Rattle.piece_item.specs.declared.take_block.TakeBlock.{TakeBlock}
 use Rattle.run_rings.specs.declared.joining.TrackRings.{TrackRings}
-use Rattle.process_cycle.specs.Ends.{AreOfOneRing}
+use Rattle.process_ends.specs.Ends.{AreOfOneRing}
 use Rattle.run_rings.specs.declared.joining.TrackEnds.{TrackEnds}
 use Rattle.run_rings.specs.Rings.{joined_all, AllWhole}
 

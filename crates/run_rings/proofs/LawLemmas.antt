@@ -5,7 +5,7 @@ use Rattle.std.proofs.lemmas.Option.{slice_get_within, get_or_from_slice_get}
 use Rattle.session_model.specs.declared.session.Session.{Session}
 use Rattle.disk_ring.specs.Sender.{Sender}
 use Rattle.disk_ring.specs.Receiver.{Receiver}
-use Rattle.process_cycle.specs.Ends.{block_of, IsNewIn, IsNewOut, AreOfOneRing}
+use Rattle.process_ends.specs.Ends.{block_of, IsNewIn, IsNewOut, AreOfOneRing}
 use Rattle.run_rings.specs.Rings.{IsRing, AreRings}
 use Rattle.run_rings.specs.Laws.{NewEndsFit}
 

@@ -12,7 +12,7 @@ use Rattle.session_model.specs.Formed.{channels_at}
 use Rattle.ses_io.specs.FixedList.{Listed}
 use Rattle.disk_ring.specs.Sender.{Sender}
 use Rattle.disk_ring.specs.Receiver.{Receiver}
-use Rattle.process_cycle.specs.Ends.{block_of}
+use Rattle.process_ends.specs.Ends.{block_of}
 use Rattle.run_rings.specs.Rings.{IsRing, AreRings}
 
 -- the channels of a track are those of its route

@@ -6,7 +6,7 @@ use Rattle.disk_ring.specs.Receiver.{Receiver}
 use Rattle.piece_item.specs.declared.item.Item.{Item}
 use Rattle.piece_item.specs.declared.take_block.TakeBlock.{TakeBlock}
 use Rattle.piece_item.specs.declared.butler_ends.ButlerEnds.{ButlerEnds}
-use Rattle.process_cycle.specs.Ends.{AreNew, AreOtherEnds, IsNewIn, IsNewOut, block_of}
+use Rattle.process_ends.specs.Ends.{AreNew, AreOtherEnds, IsNewIn, IsNewOut, block_of}
 use Rattle.run_rings.specs.declared.run_ends.RunEnds.{RunEnds}
 use Rattle.run_rings.specs.Rings.{AreNewRunEnds}
 

@@ -7,9 +7,9 @@ use Rattle.disk_ring.specs.Rings.{IsNewRing, Whole, joined_of}
 use Rattle.run_rings.specs.declared.joining.TrackRings.{TrackRings}
 use Rattle.piece_item.specs.declared.item.Item.{Item}
 use Rattle.piece_item.specs.declared.take_block.TakeBlock.{TakeBlock}
-use Rattle.process_cycle.specs.Ends.{block_of}
+use Rattle.process_ends.specs.Ends.{block_of}
 use Rattle.piece_item.specs.declared.butler_ends.ButlerEnds.{ButlerEnds}
-use Rattle.process_cycle.specs.declared.ends.ProcessEnds.{ProcessEnds}
+use Rattle.process_ends.specs.declared.ends.ProcessEnds.{ProcessEnds}
 use Rattle.run_rings.specs.declared.joining.TrackEnds.{TrackEnds}
 use Rattle.run_rings.specs.declared.run_ends.RunEnds.{RunEnds}
 

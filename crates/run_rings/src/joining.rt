@@ -3,11 +3,11 @@ ghost use Rattle.std.specs.Prelude.{◌≡◌, ◌<◌, ◌∷◌, [], ◌≤◌
 ghost use Rattle.std.specs.Vec.Iter.{into_iter_items};
 ghost use Rattle.disk_ring.specs.Rings.{Whole, joined_of};
 ghost use Rattle.run_rings.specs.Rings.{joined_ends, joined_tracks, AllWhole};
-ghost use Rattle.process_cycle.specs.Ends.{AreOfOneRing, AreOtherEnds};
+ghost use Rattle.process_ends.specs.Ends.{AreOfOneRing, AreOtherEnds};
 
 use disk_ring::{Ring, RingInList, RingOut, RingOutList, rejoin};
 use piece_item::{Ack, ButlerEnds, Item, TakeBlock};
-use process_cycle::ProcessEnds;
+use process_ends::ProcessEnds;
 use ses_io::FixedList;
 use std::alloc::Global;
 use std::vec::IntoIter;

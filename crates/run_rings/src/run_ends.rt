@@ -8,7 +8,7 @@ use crate::joining::TrackEnds;
 use crate::rings::new_track_ends;
 use disk_ring::RingOut;
 use piece_item::{Ack, ButlerEnds};
-use process_cycle::ProcessEnds;
+use process_ends::ProcessEnds;
 use ses_io::NoMemory;
 use session_model::Session;
 use std::alloc::Global;

@@ -13,13 +13,13 @@ use Rattle.cycle_journal.specs.declared.status.Status.TheVariants.{Done, Session
 use Rattle.fault_lines.specs.Fault.{fault_line}
 use Rattle.input_head.specs.Input.{input_head, wrong_of}
 use Rattle.run_world.specs.declared.finished.Faults.{Faults}
-use Rattle.engine_core.specs.Failed.{IsCounted}
+use Rattle.run_end.specs.Failures.{IsFaultCount}
 use Rattle.session_play.specs.declared.outcome.Outcome.{Outcome}
 use Rattle.session_play.specs.Causes.{AllStayOpen, HasCauses, IsCause}
 use Rattle.session_play.specs.Complete.{IsComplete, IsRight, NothingFails}
 use Rattle.session_play.specs.Ending.{status_at_end, with_report}
 use Rattle.session_play.specs.Opening.{IsTold, TakesAreThere, opens}
-use Rattle.session_play.specs.Played.{IsPlayed, WasPlayed}
+use Rattle.session_play.specs.Played.{IsRun, WasPlayed}
 use Rattle.session_play.specs.Reported.{IsStill}
 use Rattle.session_play.specs.Request.{Request, records}
 use Rattle.session_play.specs.Unplayed.{CountsBefore, Gets, GetsAFront, IsBeforePlay, IsUnplayed}
@@ -87,11 +87,11 @@ ends_so f _ says = tt
 -- ---- counts
 
 -- what stood still didn't rise
-no_rise : (before now : ℕ) (rose : Bool) → IsCounted before now rose → IsStill before now → rose ≡ false
+no_rise : (before now : ℕ) (rose : Bool) → IsFaultCount before now rose → IsStill before now → rose ≡ false
 no_rise before now true counted still = absurd (omega (arith, counted.raised refl, still.same, still.short))
 no_rise before now false counted still = refl
 
-cause_of : (fault : Status) (before now : ℕ) (rose : Bool) (s : Status) → IsCounted before now rose → (s ≡ fault → rose ≡ true) → (s ≡ Done → rose ≡ false) → IsCause fault before now s
+cause_of : (fault : Status) (before now : ℕ) (rose : Bool) (s : Status) → IsFaultCount before now rose → (s ≡ fault → rose ≡ true) → (s ≡ Done → rose ≡ false) → IsCause fault before now s
 cause_of fault before now rose s counted is none = record { rose = λ e. counted.raised (is e); later = λ _. counted.later; done = λ e. counted.kept (none e) }
 
 -- a count that is as it was, of a fault that isn't answered
@@ -105,7 +105,7 @@ module _ {M I C W O : Type 0} (media : MediaOutside M) (inputs : SourceOutside I
     (new : Outcome M I C W O) where
   -- ---- a run that was played
 
-  module _ (p : IsPlayed media inputs controls masters outs old r new) where
+  module _ (p : IsRun media inputs controls masters outs old r new) where
     abbrev f : Faults
     f = with_report p.out.unreported p.finished.faults
 
@@ -118,24 +118,24 @@ module _ {M I C W O : Type 0} (media : MediaOutside M) (inputs : SourceOutside I
     world_is : new.world ≡ record p.finished.world { out = new.world.out }
     world_is = p.hands_on.world
 
-    reads : IsCounted (media.read_faults old.media) (media.read_faults new.world.media) p.finished.faults.read
-    reads = subst (λ (w : World M I C W O). IsCounted (media.read_faults old.media) (media.read_faults w.media) p.finished.faults.read) (sym world_is) p.counted.reads
+    reads : IsFaultCount (media.read_faults old.media) (media.read_faults new.world.media) p.finished.faults.read
+    reads = subst (λ (w : World M I C W O). IsFaultCount (media.read_faults old.media) (media.read_faults w.media) p.finished.faults.read) (sym world_is) p.counted.reads
 
-    writes : IsCounted (media.write_faults old.media) (media.write_faults new.world.media) p.finished.faults.write
-    writes = subst (λ (w : World M I C W O). IsCounted (media.write_faults old.media) (media.write_faults w.media) p.finished.faults.write) (sym world_is) p.counted.writes
+    writes : IsFaultCount (media.write_faults old.media) (media.write_faults new.world.media) p.finished.faults.write
+    writes = subst (λ (w : World M I C W O). IsFaultCount (media.write_faults old.media) (media.write_faults w.media) p.finished.faults.write) (sym world_is) p.counted.writes
 
-    inputs_are : IsCounted (inputs.faults old.input) (inputs.faults new.world.input) p.finished.faults.input
-    inputs_are = subst (λ (w : World M I C W O). IsCounted (inputs.faults old.input) (inputs.faults w.input) p.finished.faults.input) (sym world_is) p.counted.inputs_are
+    inputs_are : IsFaultCount (inputs.faults old.input) (inputs.faults new.world.input) p.finished.faults.input
+    inputs_are = subst (λ (w : World M I C W O). IsFaultCount (inputs.faults old.input) (inputs.faults w.input) p.finished.faults.input) (sym world_is) p.counted.inputs_are
 
-    masters_are : IsCounted (masters.faults old.master) (masters.faults new.world.master) p.finished.faults.master
-    masters_are = subst (λ (w : World M I C W O). IsCounted (masters.faults old.master) (masters.faults w.master) p.finished.faults.master) (sym world_is) p.counted.masters_are
+    masters_are : IsFaultCount (masters.faults old.master) (masters.faults new.world.master) p.finished.faults.master
+    masters_are = subst (λ (w : World M I C W O). IsFaultCount (masters.faults old.master) (masters.faults w.master) p.finished.faults.master) (sym world_is) p.counted.masters_are
 
-    controls_are : IsCounted (controls.faults old.control) (controls.faults new.world.control) p.finished.faults.control
-    controls_are = subst (λ (w : World M I C W O). IsCounted (controls.faults old.control) (controls.faults w.control) p.finished.faults.control) (sym world_is) p.counted.controls_are
+    controls_are : IsFaultCount (controls.faults old.control) (controls.faults new.world.control) p.finished.faults.control
+    controls_are = subst (λ (w : World M I C W O). IsFaultCount (controls.faults old.control) (controls.faults w.control) p.finished.faults.control) (sym world_is) p.counted.controls_are
 
     stay_open : IsStill (media.read_faults old.media) (media.read_faults new.world.media) → AllStayOpen new.rings.items
     stay_open still = subst (λ l. AllStayOpen l.items) (sym p.hands_on.rings)
-        (λ t q at. (p.rings.left t q at).items ∙ no_rise (media.read_faults old.media) (media.read_faults new.world.media) p.finished.faults.read reads still)
+        (λ t q at. (p.rings.spent t q at).items ∙ no_rise (media.read_faults old.media) (media.read_faults new.world.media) p.finished.faults.read reads still)
 
     played_causes : HasCauses media inputs controls masters outs old new
     played_causes = record {

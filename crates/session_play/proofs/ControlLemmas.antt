@@ -21,7 +21,7 @@ use Rattle.control_desk.specs.Texts.{reply_texts}
 use Rattle.run_world.specs.declared.finished.Finished.{Finished}
 use Rattle.run_world.specs.declared.opened.Opened.{Opened}
 use Rattle.run_world.specs.declared.opened.Script.{Script}
-use Rattle.engine_core.specs.Beginning.{control_of}
+use Rattle.run_end.specs.Lines.{control_of}
 use Rattle.run_letters.specs.Events.{letter_of}
 use Rattle.engine_core.specs.Lines.{GoesByItsLines}
 use Rattle.run_letters.specs.declared.event.Event.{Event}
@@ -122,28 +122,28 @@ module _ {M I C W O : Type 0} (source : SourceOutside C) (sink : SinkOutside O) 
   abbrev first : Option Script → ControlState C O
   first script = control_of o.world.control o.world.out script
 
-  source_is : g.control.lines.source ≡ f.world.control
-  source_is = ap (λ p. p.source) g.parts
+  source_is : g.takes.control.lines.source ≡ f.world.control
+  source_is = ap (λ p. p.source) g.takes.parts
 
-  out_is : g.control.out ≡ f.world.out
-  out_is = ap (λ p. p.out) g.parts
+  out_is : g.takes.control.out ≡ f.world.out
+  out_is = ap (λ p. p.out) g.takes.parts
 
-  read_is : read_failed g.control.standing ≡ f.faults.control
-  read_is = ap (λ p. p.read_failed) g.parts
+  read_is : read_failed g.takes.control.standing ≡ f.faults.control
+  read_is = ap (λ p. p.read_failed) g.takes.parts
 
-  write_is : write_failed g.control.standing ≡ f.faults.out
-  write_is = ap (λ p. p.write_failed) g.parts
+  write_is : write_failed g.takes.control.standing ≡ f.faults.out
+  write_is = ap (λ p. p.write_failed) g.takes.parts
 
-  long_is : ((g.control.lines.budget == 0) && not (quits f.edits.items)) ≡ f.faults.long
-  long_is = ap (λ q. (g.control.lines.budget == 0) && not q) (sym g.ended_by) ∙ ap (λ p. p.long) g.parts
+  long_is : ((g.takes.control.lines.budget == 0) && not (quits f.edits.items)) ≡ f.faults.long
+  long_is = ap (λ q. (g.takes.control.lines.budget == 0) && not q) (sym g.takes.ended_by) ∙ ap (λ p. p.long) g.takes.parts
 
   left_is : quits f.edits.items ≡ false → g.left ≡ []
-  left_is none = g.quits (g.ended_by ∙ none)
+  left_is none = g.takes.quits (g.takes.ended_by ∙ none)
 
   -- an export
-  says : (q : Script) → GoesOn source sink (first (Some q)) g.lines g.replies g.control →
+  says : (q : Script) → GoesOn source sink (first (Some q)) g.lines g.replies g.takes.control →
       (Tells source (first (Some q)).script → f.faults.control ≡ false → f.faults.out ≡ false → ahead source (first (Some q)) ≡ g.lines ++ g.left) → SaysItsOwn o.world.control q.from f g.lines g.left
-  says q goes all = let is = said_by source sink (first (Some q)) g.control g.lines g.replies (export_lines q.from) g.control.script goes.passes in
+  says q goes all = let is = said_by source sink (first (Some q)) g.takes.control g.lines g.replies (export_lines q.from) g.takes.control.script goes.passes in
       let read_all : f.faults.control ≡ false = sym read_is ∙ is.read in let answered : f.faults.out ≡ false = sym write_is ∙ is.write in record {
         said = sym (all tt read_all answered);
         alone = sym source_is ∙ ap (λ l. l.source) is.lines;
@@ -153,25 +153,25 @@ module _ {M I C W O : Type 0} (source : SourceOutside C) (sink : SinkOutside O) 
       }
 
   -- a play
-  reads : GoesOn source sink (first None) g.lines g.replies g.control →
+  reads : GoesOn source sink (first None) g.lines g.replies g.takes.control →
       (Tells source (first None).script → f.faults.control ≡ false → f.faults.out ≡ false → ahead source (first None) ≡ g.lines ++ g.left) → ReadsItsLines source o.world.control s f g.lines g.left
   reads goes all = record {
-    reads = record { state = g.control.lines; is = source_is; reads = taken; long = sym long_is; quit = λ is. sym read_is ∙ unread_at_quit g.control.standing (g.ended_by ∙ is) };
+    reads = record { state = g.takes.control.lines; is = source_is; reads = taken; long = sym long_is; quit = λ is. sym read_is ∙ unread_at_quit g.takes.control.standing (g.takes.ended_by ∙ is) };
     all = all;
     long = λ t read written. sym long_is ∙ by (quits f.edits.items) refl t read written;
   } where
-    taken : ReadsLines source g.lines (at_first o.world.control) g.control.lines false f.faults.control
-    taken = subst (ReadsLines source g.lines (at_first o.world.control) g.control.lines false) read_is (read_by source sink (first None) g.control g.lines g.replies g.control.script goes.passes)
+    taken : ReadsLines source g.lines (at_first o.world.control) g.takes.control.lines false f.faults.control
+    taken = subst (ReadsLines source g.lines (at_first o.world.control) g.takes.control.lines false) read_is (read_by source sink (first None) g.takes.control g.lines g.replies g.takes.control.script goes.passes)
 
     edits_are : source.tells → f.faults.control ≡ false → f.faults.out ≡ false → accepted_of s (lines_in (take control_limit (source.left o.world.control))) ≡ f.edits.items
-    edits_are t read written = ap (accepted_of s) (all t read written) ∙ sym g.edits
+    edits_are t read written = ap (accepted_of s) (all t read written) ∙ sym g.takes.edits
 
     by : (q : Bool) → quits f.edits.items ≡ q → source.tells → f.faults.control ≡ false → f.faults.out ≡ false →
-        ((g.control.lines.budget == 0) && not (quits f.edits.items)) ≡ is_too_long read_line s (source.left o.world.control)
-    by true is t read written = and_false (g.control.lines.budget == 0) (quits f.edits.items) is
+        ((g.takes.control.lines.budget == 0) && not (quits f.edits.items)) ≡ is_too_long read_line s (source.left o.world.control)
+    by true is t read written = and_false (g.takes.control.lines.budget == 0) (quits f.edits.items) is
         ∙ sym (and_false (nat_le control_limit (length (source.left o.world.control))) (quits (accepted_of s (lines_in (take control_limit (source.left o.world.control))))) (ap quits (edits_are t read written) ∙ is))
     by false is t read written = ap (λ b. b && not (quits f.edits.items))
-        (all_read source t o.world.control g.lines g.control.lines (subst (ReadsLines source g.lines (at_first o.world.control) g.control.lines false) read taken)
+        (all_read source t o.world.control g.lines g.takes.control.lines (subst (ReadsLines source g.lines (at_first o.world.control) g.takes.control.lines false) read taken)
         (all t read written ∙ ap (λ xs. g.lines ++ xs) (left_is is) ∙ append-nil g.lines))
         ∙ ap (λ es. nat_le control_limit (length (source.left o.world.control)) && not (quits es)) (sym (edits_are t read written))
 
@@ -182,19 +182,19 @@ module _ {M I C W O : Type 0} (source : SourceOutside C) (sink : SinkOutside O) 
     pub all : sink.tells → f.faults.out ≡ false → sink.held f.world.out ≡ sink.held o.world.out ++ text
     pub front : sink.tells → AppendsSome (sink.held o.world.out) (sink.held f.world.out) text
 
-  replies_by : (script : Option Script) → GoesOn source sink (first script) g.lines g.replies g.control → HasReplies (said (option_map (λ q. q.from) script) g.replies)
-  replies_by (Some q) goes = let is = said_by source sink (first (Some q)) g.control g.lines g.replies (export_lines q.from) g.control.script goes.passes in
+  replies_by : (script : Option Script) → GoesOn source sink (first script) g.lines g.replies g.takes.control → HasReplies (said (option_map (λ q. q.from) script) g.replies)
+  replies_by (Some q) goes = let is = said_by source sink (first (Some q)) g.takes.control g.lines g.replies (export_lines q.from) g.takes.control.script goes.passes in
       let same : sink.held f.world.out ≡ sink.held o.world.out = ap (λ (x : O). sink.held x) (sym out_is ∙ is.out) in record {
         all = λ t written. same ∙ sym (append-nil (sink.held o.world.out));
         front = λ t. front_of_nothing (sink.held o.world.out) (sink.held f.world.out) [] same;
       }
-  replies_by None goes = let adds = added_by source sink (first None) g.control g.lines g.replies g.control.script goes.passes in record {
+  replies_by None goes = let adds = added_by source sink (first None) g.takes.control g.lines g.replies g.takes.control.script goes.passes in record {
     all = λ t written. ap (λ (x : O). sink.held x) (sym out_is) ∙ adds.all t (write_is ∙ written);
     front = λ t. subst (λ (x : O). AppendsSome (sink.held o.world.out) (sink.held x) (reply_texts g.replies)) out_is (adds.front t);
   }
 
   pub has_replies : HasReplies (said (option_map (λ q. q.from) o.script) g.replies)
-  has_replies = replies_by o.script g.goes
+  has_replies = replies_by o.script g.takes.goes
 
   -- ---- the whole
 
@@ -206,7 +206,7 @@ module _ {M I C W O : Type 0} (source : SourceOutside C) (sink : SinkOutside O) 
   none_given [] e = refl
   none_given (e ∷ es) is = absurd (cc)
 
-  by_script : (script : Option Script) → GoesOn source sink (first script) g.lines g.replies g.control →
+  by_script : (script : Option Script) → GoesOn source sink (first script) g.lines g.replies g.takes.control →
       (Tells source (first script).script → f.faults.control ≡ false → f.faults.out ≡ false → ahead source (first script) ≡ g.lines ++ g.left) →
       ((from : ℕ) → option_map (λ q. q.from) script ≡ Some from → SaysItsOwn o.world.control from f g.lines g.left) × (option_map (λ q. q.from) script ≡ None → ReadsItsLines source o.world.control s f g.lines g.left)
   by_script (Some q) goes all = (λ from e. subst (λ n. SaysItsOwn o.world.control n f g.lines g.left) (same from e) (says q goes all), λ e. absurd (cc)) where
@@ -217,8 +217,8 @@ module _ {M I C W O : Type 0} (source : SourceOutside C) (sink : SinkOutside O) 
   pub by_lines : (name : List ℕ) → GoesByLines source o.world.control (asked name) s f g.lines g.replies
   by_lines name = record {
     left = g.left;
-    scripted = (by_script o.script g.goes g.all).0;
-    read = (by_script o.script g.goes g.all).1;
-    answered = record { quit = left_is; edits = g.taken; replies_are = g.replied; all_edits = g.edits; all_replies = g.answered; holds = g.holds; acknowledged = g.acknowledged };
-    machine = record { machine = g.machine; plainly = λ fine none. g.plainly fine (none_given events none); paced = λ none. g.paced (none_given events none) };
+    scripted = (by_script o.script g.takes.goes g.takes.all).0;
+    read = (by_script o.script g.takes.goes g.takes.all).1;
+    answered = record { quit = left_is; edits = g.takes.taken; replies_are = g.takes.replied; all_edits = g.takes.edits; all_replies = g.takes.answered; holds = g.alone.holds; acknowledged = g.takes.acknowledged };
+    machine = record { machine = g.alone.machine; plainly = λ fine none. g.alone.plainly fine (none_given events none); paced = λ none. g.alone.paced (none_given events none) };
   }

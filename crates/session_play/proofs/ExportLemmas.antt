@@ -17,14 +17,14 @@ use Rattle.cycle_journal.specs.declared.status.Status.TheVariants.{Done}
 use Rattle.session_opening.specs.Sounds.{samples_in}
 use Rattle.run_world.specs.declared.finished.Faults.{Faults}
 use Rattle.run_world.specs.declared.finished.Finished.{Finished}
-use Rattle.engine_core.specs.Finished.{ended_of, journal_of}
+use Rattle.run_end.specs.Finished.{run_end_of, journal_of}
 use Rattle.engine_core.specs.Machine.{IsPlain}
 use Rattle.session_play.specs.declared.outcome.Outcome.{Outcome}
 use Rattle.session_play.specs.Complete.{IsComplete}
 use Rattle.session_play.specs.Controlled.{SaysItsOwn}
 use Rattle.session_play.specs.Ending.{with_report}
 use Rattle.session_play.specs.Opening.{opens}
-use Rattle.session_play.specs.Played.{IsPlayed, WasPlayed}
+use Rattle.session_play.specs.Played.{IsRun, WasPlayed}
 use Rattle.session_play.specs.Request.{Request}
 use Rattle.session_play.proofs.CauseLemmas.{NoneSet, SaysOf, says_of}
 
@@ -45,7 +45,7 @@ pub record HasExported {M I C W O : Type 0} (media : MediaOutside M) (masters : 
 
 module _ {M I C W O : Type 0} {media : MediaOutside M} {inputs : SourceOutside I} {controls : SourceOutside C} {masters : SinkOutside W} {outs : SinkOutside O} {old : World M I C W O} {r : Request}
     {new : Outcome M I C W O} where
-  module _ (p : IsPlayed media inputs controls masters outs old r new) (done : new.status ≡ Done) (from : ℕ) (script : r.script ≡ Some from) (letters : r.letters ≡ []) where
+  module _ (p : IsRun media inputs controls masters outs old r new) (done : new.status ≡ Done) (from : ℕ) (script : r.script ≡ Some from) (letters : r.letters ≡ []) where
     abbrev f : Finished M I C W O
     f = p.finished
 
@@ -58,7 +58,7 @@ module _ {M I C W O : Type 0} {media : MediaOutside M} {inputs : SourceOutside I
     own : SaysItsOwn old.control from f p.lines p.by_lines.left
     own = p.by_lines.scripted from script
 
-    is_plain : IsPlain p.session r.cycles (p.lines ++ p.by_lines.left) p.replies (ended_of f)
+    is_plain : IsPlain p.session r.cycles (p.lines ++ p.by_lines.left) p.replies (run_end_of f)
     is_plain = p.by_lines.machine.plainly (quiet f.faults.input f.faults.master f.faults.read f.faults.write none.input none.master none.read none.write) letters
 
     commands : commands_of (p.lines ++ p.by_lines.left) ≡ export_commands from
@@ -80,7 +80,7 @@ module _ {M I C W O : Type 0} {media : MediaOutside M} {inputs : SourceOutside I
           (samples_in files p.session (accepted p.session r.cycles (export_commands from))) r.cycles notes) journal;
     }
 
-  played_of : (has : Option (Listed Entry)) → WasPlayed media inputs controls masters outs old r new has → is_none has ≡ false → IsPlayed media inputs controls masters outs old r new
+  played_of : (has : Option (Listed Entry)) → WasPlayed media inputs controls masters outs old r new has → is_none has ≡ false → IsRun media inputs controls masters outs old r new
   played_of (Some entries) was e = was
   played_of None was e = absurd (true≢false e)
 

@@ -15,7 +15,7 @@ use Rattle.audio_source.specs.Opened.{OpenedSource, IsOpened}
 use Rattle.audio_source.specs.Refusals.{NoFile, source_head}
 use Rattle.cycle_journal.specs.declared.status.Status.{Status}
 use Rattle.cycle_journal.specs.declared.status.Status.TheVariants.{ReadFault, InputFault, BadInput, NoMemory}
-use Rattle.engine_core.specs.Beginning.{MayRun}
+use Rattle.run_end.specs.Beginning.{MayRun}
 use Rattle.run_letters.specs.Events.{letter_of}
 use Rattle.run_letters.specs.declared.event.Event.{Event}
 use Rattle.std.proofs.lemmas.Option.{slice_get_cases, slice_get_within}
@@ -34,7 +34,7 @@ use Rattle.session_play.specs.Complete.{IsComplete}
 use Rattle.session_play.specs.Ending.{with_report}
 use Rattle.session_play.specs.Loading.{HearCause, IsHeard, IsLoadedFor, IsUnheard}
 use Rattle.session_play.specs.Opening.{IsTold}
-use Rattle.session_play.specs.Played.{HandsOn, IsPlayed, WasPlayed}
+use Rattle.session_play.specs.Played.{HandsOn, IsRun, WasPlayed}
 use Rattle.session_play.specs.Ready.{IsKept, IsReady, OnlyOpens, loaded_of}
 use Rattle.session_play.specs.Reported.{Reports, head_of}
 use Rattle.session_play.specs.Request.{IsAsked, Request, request_view}
@@ -156,9 +156,9 @@ module _ {M I C W O : Type 0} (media : MediaOutside M) (inputs : SourceOutside I
           ∙ ap (λ (a : Option Script). record { session = q.session.now; cycles = q.cycles; script = option_map (λ k. k.from) a; letters = map letter_of events }) is.script
           ∙ ap (λ (l : List Letter). record { session = q.session.now; cycles = q.cycles; script = option_map (λ k. k.from) q.script; letters = l }) (ap (λ es. map letter_of es) given ∙ is.letters)
 
-      pub played_by : SoundOfTheRest → (new : Outcome M I C W O) → HandsOn f new → Reports outs x.head f new.status new.world.out → IsPlayed media inputs controls masters outs old (request_view q) new
-      played_by law new hands_on reports = subst (λ (w : World M I C W O). IsPlayed media inputs controls masters outs w (request_view q) new) is.only.rest
-          (subst (λ (r : Request). IsPlayed media inputs controls masters outs (record x.opened.world { media = old.media; input = old.input }) r new) view_is
+      pub played_by : SoundOfTheRest → (new : Outcome M I C W O) → HandsOn f new → Reports outs x.head f new.status new.world.out → IsRun media inputs controls masters outs old (request_view q) new
+      played_by law new hands_on reports = subst (λ (w : World M I C W O). IsRun media inputs controls masters outs w (request_view q) new) is.only.rest
+          (subst (λ (r : Request). IsRun media inputs controls masters outs (record x.opened.world { media = old.media; input = old.input }) r new) view_is
           (is_played media inputs controls masters outs x.opened events f leaves old.media old.input q.session.now
           (subst (λ (r : Request). IsLoadedFor media old.media r (loaded_of x.opened)) (sym view_is) is.loaded) is.heard is.only.files is.reads_same is.inputs_same law
           new hands_on x.head head_is_of reports)) where

@@ -1,11 +1,11 @@
 -- What a run leaves that was played, from what the engine says of it.
-use Rattle.std.proofs.Common.{◌≡◌, ℕ, suc, ◌-◌, ◌*◌, ◌<◌, ◌≤◌, ◌⊎◌, inl, inr, refl, sym, ap, subst, ◌∙◌, arith, List, [], ◌++◌, length, drop}
+use Rattle.std.proofs.Common.{◌≡◌, ℕ, suc, ◌*◌, ◌<◌, ◌≤◌, ◌⊎◌, inl, inr, refl, sym, ap, subst, ◌∙◌, arith, List, [], ◌++◌, length, drop}
 use Rattle.std.specs.Prelude.{min, Bool, true, false, ◌||◌, Option, Some, None, is_none, is_ok}
 use Rattle.std.proofs.lemmas.Bool.{true≢false}
 use Rattle.std.specs.Option.{option_map}
 use Rattle.std.proofs.lemmas.List.{append_assoc}
 use Rattle.sound_model.specs.Regions.{Sounds}
-use Rattle.sound_model.specs.Wav.{align, head}
+use Rattle.sound_model.specs.Wav.{head}
 use Rattle.ses_io.specs.Faults.{risen}
 use Rattle.ses_io.specs.Files.{Files}
 use Rattle.ses_io.specs.Outside.{MediaOutside, SourceOutside, SinkOutside, OnlyReads}
@@ -22,25 +22,22 @@ use Rattle.cycle_journal.specs.RunReport.{reported}
 use Rattle.capture_flush.specs.Finished.{AreTakes, AreTakesInPart}
 use Rattle.fault_lines.specs.Fault.{fault_line}
 use Rattle.input_blocks.specs.Laws.{SoundOfTheRest}
-use Rattle.input_blocks.specs.Rest.{StreamForm, stream_told}
-use Rattle.input_blocks.specs.State.{InputState, IsReadTo}
+use Rattle.input_blocks.specs.Rest.{stream_told}
 use Rattle.run_world.specs.declared.finished.Finished.{Finished}
 use Rattle.run_world.specs.declared.opened.Opened.{Opened}
 use Rattle.run_world.specs.declared.opened.Script.{Script}
-use Rattle.engine_core.specs.Beginning.{started_of}
-use Rattle.engine_core.specs.Failed.{IsCounted}
-use Rattle.engine_core.specs.Finished.{FaultsAreCounted, LeavesRings, SendsGenuine, ended_of, journal_of}
+use Rattle.run_end.specs.Beginning.{started_of}
+use Rattle.run_end.specs.Failures.{IsFaultCount}
+use Rattle.run_end.specs.Finished.{FaultsAreCounted, LeavesRings, SendsGenuine, run_end_of, journal_of}
 use Rattle.engine_core.specs.Lines.{GoesByItsLines}
-use Rattle.engine_core.specs.Mastered as engine
-use Rattle.engine_core.specs.Mastered.{GetsAFront, GetsTheMaster, InputFell, IsCutOff, MakesItsCycles}
-use Rattle.engine_core.specs.Passed.{AllGenuine}
-use Rattle.engine_core.specs.Takes.{AreCut, LeavesTakes}
-use Rattle.engine_core.specs.UnderWay.{IsInputOf}
+use Rattle.run_end.specs.Mastered.{InputGave, IsCutOff, MakesItsCycles, MasterIsCutOff, MasterIsWhole, after_blocks}
+use Rattle.run_end.specs.Passed.{AllGenuine}
+use Rattle.run_end.specs.Takes.{AreCut, LeavesTakes}
 use Rattle.run_letters.specs.declared.event.Event.{Event}
 use Rattle.session_play.specs.declared.outcome.Outcome.{Outcome}
 use Rattle.session_play.specs.Counted.{AreCounted}
 use Rattle.session_play.specs.Loading.{IsHeard, IsLoadedFor}
-use Rattle.session_play.specs.Played.{HandsOn, IsPlayed}
+use Rattle.session_play.specs.Played.{HandsOn, IsRun}
 use Rattle.session_play.specs.Ready.{loaded_of}
 use Rattle.session_play.specs.Recorded.{GetsItsMaster, LeavesItsRings, LeavesItsTakes, ReadsItsInput, recorded_by}
 use Rattle.session_play.specs.Reported.{IsStill, Reports, TellsOut, head_of, reported_with, said, told}
@@ -71,11 +68,11 @@ pub record Leaves {M I C W O : Type 0} (media : MediaOutside M) (inputs : Source
   pub lines : GoesByItsLines controls outs o events f
   pub rings : LeavesRings o f
   pub genuine : media.tells → SendsGenuine media o f
-  pub master : media.tells → masters.tells → GetsTheMaster media masters o f
-  pub front : media.tells → masters.tells → GetsAFront media masters o f
+  pub master : media.tells → masters.tells → MasterIsWhole media masters o f
+  pub cut_off : media.tells → masters.tells → MasterIsCutOff media masters o f
   pub cycles : MakesItsCycles o f
-  pub input : engine.ReadsItsInput inputs (started_of media inputs masters o) f
-  pub takes : LeavesTakes media inputs (started_of media inputs masters o) (ended_of f)
+  pub input : InputGave inputs o f
+  pub takes : LeavesTakes media inputs (started_of media inputs masters o) (run_end_of f)
   pub counts : FaultsAreCounted media inputs controls masters outs o f
 
 module _ {M I C W O : Type 0} (media : MediaOutside M) (inputs : SourceOutside I) (controls : SourceOutside C) (masters : SinkOutside W) (outs : SinkOutside O) (o : Opened M I C W O) (events : List Event)
@@ -154,50 +151,37 @@ module _ {M I C W O : Type 0} (media : MediaOutside M) (inputs : SourceOutside I
     gets_master = record {
       written = λ t u fine. leaves.master t u fine ∙ ap (λ (h : Sounds). masters.held o.world.master ++ master_file s f.edits.items (samples_of h s f.edits.items) o.cycles (journal_of f)) (sounds t);
       cut_off = λ t u failed. subst (λ (h : Sounds). IsCutOff f.faults.input (masters.held o.world.master) (masters.held f.world.master) s f.edits.items (samples_of h s f.edits.items) o.cycles (journal_of f)) (sounds t)
-          (leaves.front t u failed);
+          (leaves.cut_off t u failed);
       most = leaves.cycles.most;
       all = λ none no_input no_master. leaves.cycles.all none (ap (λ b. b || f.faults.master) no_input ∙ no_master);
     }
 
     -- ---- the input
 
-    left_of : (n : ℕ) (x : InputState I) → IsInputOf (started_of media inputs masters o) x → IsReadTo inputs (record { start = inputs.left o.world.input; blocks = n }) x → inputs.tells →
-        inputs.left x.input ≡ input_left s n (inputs.left i)
-    left_of n x of read t = let start = inputs.left o.world.input in
-        read.left t ∙ ap (λ k. drop (k * align x.stream.form) start) read.done
-        ∙ ap (λ (st : StreamForm). drop (min (n * x.block) st.frames * align st.form) start) of.stream
-        ∙ ap (λ b. drop (min (n * b) (stream_told o.form).frames * align (stream_told o.form).form) start) of.block
-        ∙ left_is s (inputs.left i) start o.form n (heard.told t) (heard.rest t)
+    abbrev made : ℕ
+    made = length (journal_of f)
 
-    input_is : inputs.left leaves.input.now.input ≡ inputs.left f.world.input
-    input_is = ap (λ (x : I). inputs.left x) leaves.input.is
+    -- what so many blocks leave
+    after : (n : ℕ) → inputs.tells → after_blocks inputs o n ≡ input_left s n (inputs.left i)
+    after n t = left_is s (inputs.left i) (inputs.left o.world.input) o.form n (heard.told t) (heard.rest t)
 
-    fell_by : InputFell inputs (started_of media inputs masters o) f leaves.input.now → inputs.tells → (n : ℕ) × (n < bytes_of_block (head false (inputs.left i)) s (length (journal_of f)))
-        × (inputs.left f.world.input ≡ drop n (input_left s (length (journal_of f)) (inputs.left i)))
-    fell_by e t = let lost = e.lost.lost t in (
+    fell_by : inputs.tells → f.faults.input ≡ true → (n : ℕ) × (n < bytes_of_block (head false (inputs.left i)) s made) × (inputs.left f.world.input ≡ drop n (input_left s made (inputs.left i)))
+    fell_by t failed = let lost = leaves.input.fell t failed in (
       lost.0,
-      block_is s (inputs.left i) o.form (length (journal_of f)) e.before.done lost.0 (heard.told t) (done_is e.of e.read) (few lost.0 lost.1),
-      sym input_is ∙ lost.2 ∙ ap (drop lost.0) (left_of (length (journal_of f)) e.before e.of e.read t),
-    ) where
-      done_is : IsInputOf (started_of media inputs masters o) e.before → IsReadTo inputs (record { start = inputs.left o.world.input; blocks = length (journal_of f) }) e.before →
-          e.before.done ≡ min (length (journal_of f) * s.block) (stream_told o.form).frames
-      done_is of read = read.done ∙ ap (λ (st : StreamForm). min (length (journal_of f) * e.before.block) st.frames) of.stream
-          ∙ ap (λ b. min (length (journal_of f) * b) (stream_told o.form).frames) of.block
+      block_is s (inputs.left i) o.form made (min (made * s.block) (stream_told o.form).frames) lost.0 (heard.told t) refl lost.1,
+      lost.2 ∙ ap (drop lost.0) (after made t),
+    )
 
-      few : (n : ℕ) → n < min (e.before.stream.frames - e.before.done) e.before.block * align e.before.stream.form → n < min ((stream_told o.form).frames - e.before.done) s.block * align (stream_told o.form).form
-      few n less = subst (λ b. n < min ((stream_told o.form).frames - e.before.done) b * align (stream_told o.form).form) e.of.block
-          (subst (λ (st : StreamForm). n < min (st.frames - e.before.done) e.before.block * align st.form) e.of.stream less)
-
-    cut_by : IsReadTo inputs (record { start = inputs.left o.world.input; blocks = length (journal_of f) }) leaves.input.now ⊎ IsReadTo inputs (record { start = inputs.left o.world.input; blocks = suc (length (journal_of f)) }) leaves.input.now →
-        inputs.tells → (inputs.left f.world.input ≡ input_left s (length (journal_of f)) (inputs.left i)) ⊎ (inputs.left f.world.input ≡ input_left s (suc (length (journal_of f))) (inputs.left i))
-    cut_by (inl read) t = inl (sym input_is ∙ left_of (length (journal_of f)) leaves.input.now leaves.input.of read t)
-    cut_by (inr read) t = inr (sym input_is ∙ left_of (suc (length (journal_of f))) leaves.input.now leaves.input.of read t)
+    cut_by : (inputs.left f.world.input ≡ after_blocks inputs o made) ⊎ (inputs.left f.world.input ≡ after_blocks inputs o (suc made)) → inputs.tells →
+        (inputs.left f.world.input ≡ input_left s made (inputs.left i)) ⊎ (inputs.left f.world.input ≡ input_left s (suc made) (inputs.left i))
+    cut_by (inl left) t = inl (left ∙ after made t)
+    cut_by (inr left) t = inr (left ∙ after (suc made) t)
 
     reads_input : ReadsItsInput inputs i s f
     reads_input = record {
-      read = λ t no_input no_master. sym input_is ∙ left_of (length (journal_of f)) leaves.input.now leaves.input.of (leaves.input.read (ap (λ b. b || f.faults.master) no_input ∙ no_master)) t;
-      fell = λ t failed. fell_by (leaves.input.fell failed) t;
-      cut = λ t no_input failed. cut_by (leaves.input.cut failed no_input) t;
+      read = λ t no_input no_master. leaves.input.read t (ap (λ b. b || f.faults.master) no_input ∙ no_master) ∙ after made t;
+      fell = λ t failed. fell_by t failed;
+      cut = λ t no_input failed. cut_by (leaves.input.cut t no_input failed) t;
     }
 
     -- ---- takes and rings
@@ -220,24 +204,25 @@ module _ {M I C W O : Type 0} (media : MediaOutside M) (inputs : SourceOutside I
     leaves_rings = record {
       passed = leaves.rings.passed;
       genuine = λ t. subst (λ (h : Sounds). AllGenuine h s f.edits.items f.rings.items) (sounds t) (leaves.genuine t);
-      left = leaves.rings.left;
-      acks = leaves.rings.acks;
-      ungranted = leaves.rings.ungranted;
+      spent = leaves.rings.spent;
+      acks = leaves.rings.acks_are;
+      none_taken = leaves.lines.alone.none_taken;
+      ungranted = leaves.lines.alone.ungranted;
     }
 
     are_counted : AreCounted media inputs controls masters before f
     are_counted = record {
-      reads = subst (λ n. IsCounted n (media.read_faults f.world.media) f.faults.read) reads_same leaves.counts.reads;
-      writes = subst (λ n. IsCounted n (media.write_faults f.world.media) f.faults.write) files.other_count leaves.counts.writes;
-      inputs_are = subst (λ n. IsCounted n (inputs.faults f.world.input) f.faults.input) inputs_same leaves.counts.inputs_are;
+      reads = subst (λ n. IsFaultCount n (media.read_faults f.world.media) f.faults.read) reads_same leaves.counts.reads;
+      writes = subst (λ n. IsFaultCount n (media.write_faults f.world.media) f.faults.write) files.other_count leaves.counts.writes;
+      inputs_are = subst (λ n. IsFaultCount n (inputs.faults f.world.input) f.faults.input) inputs_same leaves.counts.inputs_are;
       masters_are = leaves.counts.masters;
       controls_are = leaves.counts.controls;
-      memory = leaves.counts.memory;
+      memory = leaves.lines.alone.memory;
     }
 
     -- **it was played**
     pub is_played : (new : Outcome M I C W O) → HandsOn f new → (head : ReportHead) → head ≡ head_of s o.cycles → Reports outs head f new.status new.world.out →
-        IsPlayed media inputs controls masters outs before request new
+        IsRun media inputs controls masters outs before request new
     is_played new hands_on head head_is reports = record {
       session = s;
       valid = loaded.loaded.valid;
@@ -249,7 +234,7 @@ module _ {M I C W O : Type 0} (media : MediaOutside M) (inputs : SourceOutside I
       lines = leaves.lines.lines;
       replies = replies;
       by_lines = by_lines controls outs o events f leaves.lines name;
-      serial = λ none. leaves.lines.serially (none_given controls outs o events f leaves.lines events none);
+      serial = λ none. leaves.lines.alone.serially (none_given controls outs o events f leaves.lines events none);
       master = gets_master;
       input = reads_input;
       takes = leaves_takes;

@@ -16,8 +16,8 @@ use Rattle.control_desk.specs.State.{export_lines, lines_in}
 use Rattle.piece_item.specs.Views.{ack_of}
 use Rattle.run_world.specs.declared.finished.Faults.{Faults}
 use Rattle.run_world.specs.declared.finished.Finished.{Finished}
-use Rattle.engine_core.specs.Failed.{has_stopped, nothing_failed}
-use Rattle.engine_core.specs.Finished.{ended_of, failed_of, journal_of}
+use Rattle.run_end.specs.Failures.{has_stopped, nothing_failed}
+use Rattle.run_end.specs.Finished.{run_end_of, failures_of, journal_of}
 use Rattle.engine_core.specs.Machine.{IsPlain, IsTheMachines}
 use Rattle.session_play.specs.Request.{Request}
 
@@ -70,9 +70,9 @@ module _ {M I C W O : Type 0} where
   -- **Where nothing of butler and process has failed the run is the core machine's** by its letters and a serial rest, and with no letter
   -- the plain run of its lines. With no letter entries and replies are by the plain walk over the lines, whatever has failed.
   pub record IsOfMachine (s : Session) (r : Request) (f : Finished M I C W O) (lines left : List Line) (replies : List Reply) : Type 0 where
-    pub machine : nothing_failed (failed_of f.faults) ≡ true → IsTheMachines s r.cycles (lines ++ left) r.letters replies (ended_of f)
-    pub plainly : nothing_failed (failed_of f.faults) ≡ true → r.letters ≡ [] → IsPlain s r.cycles (lines ++ left) replies (ended_of f)
-    pub paced : r.letters ≡ [] → IsPaced s r.cycles (has_stopped (failed_of f.faults)) [] [] lines (journal_of f) replies
+    pub machine : nothing_failed (failures_of f.faults) ≡ true → IsTheMachines s r.cycles (lines ++ left) r.letters replies (run_end_of f)
+    pub plainly : nothing_failed (failures_of f.faults) ≡ true → r.letters ≡ [] → IsPlain s r.cycles (lines ++ left) replies (run_end_of f)
+    pub paced : r.letters ≡ [] → IsPaced s r.cycles (has_stopped (failures_of f.faults)) [] [] lines (journal_of f) replies
 
   -- **From bytes**: by these lines and replies the run has gone.
   pub record GoesByLines (controls : SourceOutside C) (old : C) (r : Request) (s : Session) (f : Finished M I C W O) (lines : List Line) (replies : List Reply) : Type 0 where

@@ -29,7 +29,7 @@ module _ {M I C W O : Type 0} where
     pub acks : new.acks ≡ Some f.acks
     pub grants : new.grants ≡ f.grants
 
-  pub record IsPlayed (media : MediaOutside M) (inputs : SourceOutside I) (controls : SourceOutside C) (masters : SinkOutside W) (outs : SinkOutside O) (old : World M I C W O) (r : Request)
+  pub record IsRun (media : MediaOutside M) (inputs : SourceOutside I) (controls : SourceOutside C) (masters : SinkOutside W) (outs : SinkOutside O) (old : World M I C W O) (r : Request)
       (new : Outcome M I C W O) : Type 0 where
     -- a valid session was played, which is the file's where the media tells; no take was in the way
     pub session : Session
@@ -57,5 +57,5 @@ module _ {M I C W O : Type 0} where
 
   -- a run that has a journal was played, and one that has none wasn't
   abbrev pub WasPlayed : MediaOutside M → SourceOutside I → SourceOutside C → SinkOutside W → SinkOutside O → World M I C W O → Request → Outcome M I C W O → Option (Listed Entry) → Type 0
-  WasPlayed media inputs controls masters outs old r new (Some journal) = IsPlayed media inputs controls masters outs old r new
+  WasPlayed media inputs controls masters outs old r new (Some journal) = IsRun media inputs controls masters outs old r new
   WasPlayed media inputs controls masters outs old r new None = IsUnplayed media inputs outs old new

@@ -1,5 +1,5 @@
 -- What the master, the input, the takes and the rings of a run are at its end.
-use Rattle.std.specs.Prelude.{◌≡◌, ◌⊎◌, ℕ, suc, ◌≤◌, ◌<◌, true, false, ◌++◌, length, map, drop, slice_get, Some, None}
+use Rattle.std.specs.Prelude.{◌≡◌, ◌⊎◌, ℕ, suc, ◌≤◌, ◌<◌, true, false, [], ◌++◌, length, map, drop, slice_get, Some, None}
 use Rattle.sound_model.specs.Wav.{head}
 use Rattle.ses_io.specs.Outside.{MediaOutside, SourceOutside, SinkOutside}
 use Rattle.ses_io.specs.declared.world.World.{World}
@@ -8,12 +8,12 @@ use Rattle.engine_model.specs.Played.{master_file}
 use Rattle.engine_model.specs.Takes.{Input}
 use Rattle.capture_flush.specs.Blocks.{block_of, taken_blocks}
 use Rattle.capture_flush.specs.Finished.{Recorded, AreTakes, AreTakesInPart}
-use Rattle.engine_core.specs.Takes.{AreCut}
+use Rattle.run_end.specs.Takes.{AreCut}
 use Rattle.run_rings.specs.declared.joining.TrackRings.{TrackRings}
 use Rattle.run_world.specs.declared.finished.Finished.{Finished}
-use Rattle.engine_core.specs.Finished.{failed_of, journal_of}
-use Rattle.engine_core.specs.Mastered.{IsCutOff}
-use Rattle.engine_core.specs.Passed.{AllGenuine, AreLeft, IsToldToControl, PassedOn}
+use Rattle.run_end.specs.Finished.{failures_of, journal_of}
+use Rattle.run_end.specs.Mastered.{IsCutOff}
+use Rattle.run_end.specs.Passed.{AllGenuine, AreSpent, IsToldOn, PassedOn}
 use Rattle.session_play.specs.Controlled.{quits}
 use Rattle.session_play.specs.Request.{Request, records}
 use Rattle.session_opening.specs.Sounds.{bytes_of_block, input_left, input_sound, samples_in, sounds_in}
@@ -69,8 +69,10 @@ module _ {M I C W O : Type 0} where
     -- each piece that was sent is genuine
     pub genuine : media.tells → AllGenuine (sounds_in (media.files old.media) s) s f.edits.items f.rings.items
     -- a ring of items is closed exactly where a read of the media failed
-    pub left : AreLeft (failed_of f.faults) f.rings.items
+    pub spent : AreSpent (failures_of f.faults) f.rings.items
     -- each entry was acknowledged to control, or found that ring full
-    pub acks : IsToldToControl s f.edits.items (journal_of f) f.acks
+    pub acks : IsToldOn s f.edits.items (journal_of f) f.acks
+    -- which took none of them
+    pub none_taken : f.acks.received ≡ []
     -- control allowed nothing by a ring
     pub ungranted : f.grants ≡ None

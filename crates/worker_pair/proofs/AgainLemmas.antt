@@ -16,7 +16,7 @@ use Rattle.cycle_journal.specs.declared.note.Take.{Take}
 use Rattle.cycle_journal.specs.declared.note.Take.TheVariants.{Off, Taken, Lost}
 use Rattle.track_capture.specs.Counted.{HasCaptured}
 use Rattle.process_cycle.specs.Cycles.{Acknowledges}
-use Rattle.process_cycle.specs.Ends.{AllMeet, AllStillMet, Meet}
+use Rattle.process_ends.specs.Ends.{AllMeet, AllStillMet, Meet}
 use Rattle.worker_pair.specs.Met.{KnowEachOther, AllKnow}
 
 -- more was put, or the ring was closed

@@ -11,8 +11,8 @@ use Rattle.butler.specs.ButlerState.{ButlerState}
 use Rattle.butler.specs.Moves as moving
 use Rattle.butler.specs.Moves.{IsAlone, MakesMove}
 use Rattle.butler.proofs.MoveLemmas.{a_turn_of_one_is_one_move}
-use Rattle.process_cycle.specs.declared.ends.ProcessEnds.{ProcessEnds}
-use Rattle.process_cycle.specs.Ends.{EndsMeet}
+use Rattle.process_ends.specs.declared.ends.ProcessEnds.{ProcessEnds}
+use Rattle.process_ends.specs.Ends.{EndsMeet}
 use Rattle.worker_pair.specs.declared.ending.Ending.{Ending}
 use Rattle.worker_pair.specs.Begun.{At}
 use Rattle.worker_pair.specs.Runs.{Serves}

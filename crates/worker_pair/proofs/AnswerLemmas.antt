@@ -5,11 +5,11 @@ use Rattle.ses_io.specs.Outside.{MediaOutside, SourceOutside, SinkOutside}
 use Rattle.piece_item.specs.declared.butler_ends.ButlerEnds.{ButlerEnds}
 use Rattle.master_blocks.specs.State.{IsMasterOf}
 use Rattle.butler.specs.ButlerState.{ButlerState as Butler}
-use Rattle.process_cycle.specs.declared.ends.ProcessEnds.{ProcessEnds}
+use Rattle.process_ends.specs.declared.ends.ProcessEnds.{ProcessEnds}
 use Rattle.process_cycle.specs.declared.fault.CycleFault.{CycleFault}
 use Rattle.process_cycle.specs.declared.fault.CycleFault.TheVariants.{InputFault, MasterFault}
 use Rattle.process_cycle.specs.Cycles.{CycleReads, CycleWrites, HasStopped, MakesEntry, next_bytes}
-use Rattle.process_cycle.specs.Ends.{EndsMeet, MayMeet}
+use Rattle.process_ends.specs.Ends.{EndsMeet, MayMeet}
 use Rattle.process_cycle.specs.Playing.{IsPlaying}
 use Rattle.process_cycle.specs.Promised.{IsMastered}
 use Rattle.process_cycle.specs.ProcessState.{ProcessState}

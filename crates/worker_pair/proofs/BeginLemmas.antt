@@ -7,7 +7,7 @@ use Rattle.process_cycle.specs.ProcessState.{ProcessState as Process, entries_of
 use Rattle.process_cycle.specs.Promised.{IsMastered, Promises}
 use Rattle.process_cycle.specs.Playing.{IsPlaying}
 use Rattle.process_cycle.specs.declared.fault.CycleFault.{CycleFault}
-use Rattle.process_cycle.specs.declared.ends.ProcessEnds.{ProcessEnds}
+use Rattle.process_ends.specs.declared.ends.ProcessEnds.{ProcessEnds}
 use Rattle.worker_pair.specs.declared.pair.Pair.{Pair}
 use Rattle.worker_pair.specs.Begun.{At, headed, playing_at}
 use Rattle.worker_pair.specs.Runs.{HasControl, HasEntered, Rests, Runs, Serves}

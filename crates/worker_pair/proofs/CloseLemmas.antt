@@ -18,8 +18,8 @@ use Rattle.piece_item.specs.Views.{ack_of}
 use Rattle.butler.specs.ButlerState.{Rested}
 use Rattle.butler.specs.Serving.{AreStocked}
 use Rattle.butler.proofs.MeetingLemmas.{meeting_keeps}
-use Rattle.process_cycle.specs.declared.ends.ProcessEnds.{ProcessEnds}
-use Rattle.process_cycle.specs.Ends.{AreOfOneRing, AreOtherEnds, EndsMeet, MayMeet, Meet, shut, shut_ends}
+use Rattle.process_ends.specs.declared.ends.ProcessEnds.{ProcessEnds}
+use Rattle.process_ends.specs.Ends.{AreOfOneRing, AreOtherEnds, EndsMeet, MayMeet, Meet, shut, shut_ends}
 use Rattle.worker_pair.specs.declared.ending.Ending.{Ending}
 use Rattle.worker_pair.specs.declared.ending.Stopped.{Stopped}
 use Rattle.worker_pair.specs.declared.pair.Pair.{Pair}

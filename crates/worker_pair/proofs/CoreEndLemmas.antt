@@ -27,9 +27,9 @@ use Rattle.piece_item.specs.declared.take_block.TakeBlock.{TakeBlock}
 use Rattle.cycle_journal.specs.declared.note.Note.{Note}
 use Rattle.cycle_journal.specs.JournalView.{seen_take}
 use Rattle.track_playback.specs.SpareBoxes.{received_kinds}
-use Rattle.process_cycle.specs.declared.ends.ProcessEnds.{ProcessEnds}
+use Rattle.process_ends.specs.declared.ends.ProcessEnds.{ProcessEnds}
 use Rattle.process_cycle.specs.Cycles.{MakesEntry, ack_of}
-use Rattle.process_cycle.specs.Ends.{EndsMeet}
+use Rattle.process_ends.specs.Ends.{EndsMeet}
 use Rattle.process_cycle.specs.ProcessState.{ProcessState, entries_of, kinds_of}
 use Rattle.worker_pair.specs.declared.pair.Pair.{Pair}
 use Rattle.worker_pair.specs.Begun.{At}

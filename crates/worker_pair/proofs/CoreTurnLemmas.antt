@@ -35,8 +35,8 @@ use Rattle.butler.specs.Moves.{MakesMove, one_of, sent_by, flushed_by, answer_of
 use Rattle.butler.specs.CoreMoves as cores
 use Rattle.butler.specs.CoreMoves.{IsCoreOf}
 use Rattle.butler.proofs.CoreMoveLemmas.{due_reversed, the_move_is_the_core_machines}
-use Rattle.process_cycle.specs.declared.ends.ProcessEnds.{ProcessEnds}
-use Rattle.process_cycle.specs.Ends.{EndsMeet}
+use Rattle.process_ends.specs.declared.ends.ProcessEnds.{ProcessEnds}
+use Rattle.process_ends.specs.Ends.{EndsMeet}
 use Rattle.worker_pair.specs.declared.ending.Ending.{Ending}
 use Rattle.worker_pair.specs.Begun.{At}
 use Rattle.worker_pair.specs.Runs.{Serves}

@@ -13,9 +13,9 @@ use Rattle.piece_item.specs.declared.ack.Ack.{Ack}
 use Rattle.piece_item.specs.declared.butler_ends.ButlerEnds.{ButlerEnds}
 use Rattle.piece_item.specs.declared.take_block.TakeBlock.{TakeBlock}
 use Rattle.cycle_journal.specs.declared.entry.Entry.{Entry}
-use Rattle.process_cycle.specs.declared.ends.ProcessEnds.{ProcessEnds}
+use Rattle.process_ends.specs.declared.ends.ProcessEnds.{ProcessEnds}
 use Rattle.process_cycle.specs.Cycles.{MakesEntry, ack_of}
-use Rattle.process_cycle.specs.Ends.{AllStillMet, AreOfOneRing, AreOtherEnds, EndsMeet, MayMeet}
+use Rattle.process_ends.specs.Ends.{AllStillMet, AreOfOneRing, AreOtherEnds, EndsMeet, MayMeet}
 use Rattle.process_cycle.specs.Playing.{IsPlaying}
 use Rattle.process_cycle.specs.Promised.{IsMastered}
 use Rattle.process_cycle.specs.ProcessState.{ProcessState}

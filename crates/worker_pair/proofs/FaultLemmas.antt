@@ -5,9 +5,9 @@ use Rattle.ses_io.specs.Outside.{MediaOutside, SourceOutside, SinkOutside}
 use Rattle.input_blocks.specs.Rest.{rest_sound}
 use Rattle.piece_item.specs.declared.butler_ends.ButlerEnds.{ButlerEnds}
 use Rattle.master_blocks.specs.State.{IsMasterOf}
-use Rattle.process_cycle.specs.declared.ends.ProcessEnds.{ProcessEnds}
+use Rattle.process_ends.specs.declared.ends.ProcessEnds.{ProcessEnds}
 use Rattle.process_cycle.specs.Cycles.{HasStopped}
-use Rattle.process_cycle.specs.Ends.{AreOtherEnds, EndsMeet}
+use Rattle.process_ends.specs.Ends.{AreOtherEnds, EndsMeet}
 use Rattle.process_cycle.specs.Captured.{Hears}
 use Rattle.process_cycle.specs.ProcessState.{ProcessState, entries_of, sound_of}
 use Rattle.process_cycle.specs.Promised.{Promises}

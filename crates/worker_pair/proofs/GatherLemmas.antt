@@ -26,7 +26,7 @@ use Rattle.track_playback.specs.declared.playback.TrackPlayback.{TrackPlayback}
 use Rattle.track_playback.specs.declared.play_position.PlayPosition.{PlayPosition}
 use Rattle.butler.specs.ButlerState.{ButlerState as Butler}
 use Rattle.edition_log.specs.EditionState.{EditionState as Edition}
-use Rattle.process_cycle.specs.Ends.{block_of}
+use Rattle.process_ends.specs.Ends.{block_of}
 use Rattle.process_cycle.specs.Looked.{LooksAtAll, Keeps}
 use Rattle.process_cycle.specs.Playing.{IsPlaying}
 use Rattle.process_cycle.specs.ProcessState.{ProcessState, Playing, entered, entries_of, position_of}

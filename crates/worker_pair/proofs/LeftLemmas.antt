@@ -17,8 +17,8 @@ use Rattle.disk_ring.specs.Sender.{Sender}
 use Rattle.disk_ring.specs.Receiver.{Receiver, GoesOnOut}
 use Rattle.piece_item.specs.declared.butler_ends.ButlerEnds.{ButlerEnds}
 use Rattle.piece_item.specs.declared.item.Item.{Item}
-use Rattle.process_cycle.specs.declared.ends.ProcessEnds.{ProcessEnds}
-use Rattle.process_cycle.specs.Ends.{AllMeet, AreOfOneRing, AreOtherEnds, EndsMeet, MayMeetPlays, Meet}
+use Rattle.process_ends.specs.declared.ends.ProcessEnds.{ProcessEnds}
+use Rattle.process_ends.specs.Ends.{AllMeet, AreOfOneRing, AreOtherEnds, EndsMeet, MayMeetPlays, Meet}
 use Rattle.process_cycle.specs.Looked.{Keeps, LooksAtAll}
 use Rattle.process_cycle.specs.Playing.{IsPlaying}
 use Rattle.process_cycle.specs.Promised.{IsMastered}

@@ -21,8 +21,8 @@ use Rattle.butler.specs.Faults.{is_read_fault}
 use Rattle.butler.specs.Sends.{acks_of}
 use Rattle.butler.specs.Turns.{Answers}
 use Rattle.butler.proofs.RingMoveLemmas.{sent_more}
-use Rattle.process_cycle.specs.declared.ends.ProcessEnds.{ProcessEnds}
-use Rattle.process_cycle.specs.Ends.{AreOtherEnds, EndsMeet}
+use Rattle.process_ends.specs.declared.ends.ProcessEnds.{ProcessEnds}
+use Rattle.process_ends.specs.Ends.{AreOtherEnds, EndsMeet}
 use Rattle.worker_pair.specs.declared.ending.Ending.{Ending}
 use Rattle.worker_pair.specs.Begun.{At}
 use Rattle.worker_pair.specs.Runs.{Serves}

@@ -21,8 +21,8 @@ use Rattle.butler.specs.ButlerState.{ButlerState, Rested, rested, resumed}
 use Rattle.butler.specs.Laws.{IsKeptBy}
 use Rattle.butler.specs.Serving.{IsServing, IsTrueTo}
 use Rattle.butler.proofs.MeetingLemmas.{meeting_keeps}
-use Rattle.process_cycle.specs.declared.ends.ProcessEnds.{ProcessEnds}
-use Rattle.process_cycle.specs.Ends.{AreOfOneRing, Meet, AllMeet, AreOtherEnds, EndsMeet}
+use Rattle.process_ends.specs.declared.ends.ProcessEnds.{ProcessEnds}
+use Rattle.process_ends.specs.Ends.{AreOfOneRing, Meet, AllMeet, AreOtherEnds, EndsMeet}
 use Rattle.worker_pair.specs.declared.ending.Ending.{Ending}
 use Rattle.worker_pair.specs.Begun.{At}
 use Rattle.worker_pair.specs.Met.{KnowEachOther, AllKnow, HaveMet}

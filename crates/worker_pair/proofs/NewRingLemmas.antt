@@ -10,7 +10,7 @@ use Rattle.disk_ring.specs.Receiver.{Receiver}
 use Rattle.piece_item.specs.declared.item.Item.{Item}
 use Rattle.piece_item.specs.declared.take_block.TakeBlock.{TakeBlock}
 use Rattle.read_ahead.specs.Items.{kinds}
-use Rattle.process_cycle.specs.Ends.{AreNew, IsNewIn, IsNewOut, block_of}
+use Rattle.process_ends.specs.Ends.{AreNew, IsNewIn, IsNewOut, block_of}
 use Rattle.run_rings.specs.declared.run_ends.RunEnds.{RunEnds}
 use Rattle.run_rings.specs.Laws.{AreNewForButler}
 use Rattle.run_rings.specs.Rings.{AreNewRunEnds, EachHasARing, IsRing}

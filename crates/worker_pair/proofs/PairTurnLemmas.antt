@@ -11,8 +11,8 @@ use Rattle.piece_item.specs.declared.butler_ends.ButlerEnds.{ButlerEnds}
 use Rattle.butler.specs.declared.turning.Turn.{Turn}
 use Rattle.butler.specs.declared.faults.ButlerFault.{ButlerFault}
 use Rattle.butler.specs.ButlerState.{ButlerState}
-use Rattle.process_cycle.specs.declared.ends.ProcessEnds.{ProcessEnds}
-use Rattle.process_cycle.specs.Ends.{EndsMeet}
+use Rattle.process_ends.specs.declared.ends.ProcessEnds.{ProcessEnds}
+use Rattle.process_ends.specs.Ends.{EndsMeet}
 use Rattle.process_cycle.specs.Playing.{IsPlaying}
 use Rattle.process_cycle.proofs.HearsLemmas.{hears_while_meeting}
 use Rattle.process_cycle.proofs.MeetPromiseLemmas.{promises_while_meeting}

@@ -30,8 +30,8 @@ use Rattle.butler.specs.Begins as butler
 use Rattle.butler.specs.Begins.{IsGiven}
 use Rattle.butler.specs.ButlerState.{ButlerState as Butler}
 use Rattle.butler.specs.Serving.{IsServing, IsTrueTo}
-use Rattle.process_cycle.specs.declared.ends.ProcessEnds.{ProcessEnds}
-use Rattle.process_cycle.specs.Ends.{AreOtherEnds}
+use Rattle.process_ends.specs.declared.ends.ProcessEnds.{ProcessEnds}
+use Rattle.process_ends.specs.Ends.{AreOtherEnds}
 use Rattle.process_cycle.specs.Playing.{HasBegun as PlayingBegun}
 use Rattle.process_cycle.specs.ProcessState.{ProcessState as Process}
 use Rattle.run_rings.specs.declared.run_ends.RunEnds.{RunEnds}

@@ -21,8 +21,8 @@ use Rattle.butler.specs.Faults.{Counts, Fails, KeepsRest, is_write_fault}
 use Rattle.butler.specs.Serving.{AreStocked, IsServing, SourcesStand}
 use Rattle.butler.specs.Turns.{Receives, TakesAreKept, AllSend, StaysTrue, Answers}
 use Rattle.butler.proofs.SourceLemmas.{sources_are_no_takes}
-use Rattle.process_cycle.specs.declared.ends.ProcessEnds.{ProcessEnds}
-use Rattle.process_cycle.specs.Ends.{AreOtherEnds, EndsMeet, MayMeet}
+use Rattle.process_ends.specs.declared.ends.ProcessEnds.{ProcessEnds}
+use Rattle.process_ends.specs.Ends.{AreOtherEnds, EndsMeet, MayMeet}
 use Rattle.worker_pair.specs.declared.ending.Ending.{Ending}
 use Rattle.worker_pair.specs.Begun.{At, turned, served_at}
 use Rattle.worker_pair.specs.Runs.{Serves}

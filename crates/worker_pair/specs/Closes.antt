@@ -3,7 +3,7 @@ use Rattle.std.specs.Prelude.{◌≡◌, map, reverse}
 use Rattle.session_model.specs.declared.session.Session.{Session}
 use Rattle.machine_model.specs.Core.{Core}
 use Rattle.piece_item.specs.Views.{ack_of}
-use Rattle.process_cycle.specs.Ends.{EndsMeet, Meet, shut, shut_ends}
+use Rattle.process_ends.specs.Ends.{EndsMeet, Meet, shut, shut_ends}
 use Rattle.worker_pair.specs.declared.ending.Ending.{Ending}
 use Rattle.worker_pair.specs.declared.ending.Stopped.{Stopped}
 use Rattle.worker_pair.specs.declared.pair.Pair.{Pair}

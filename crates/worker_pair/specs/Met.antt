@@ -4,7 +4,7 @@ use Rattle.disk_ring.specs.Sender.{Sender}
 use Rattle.disk_ring.specs.Receiver.{Receiver}
 use Rattle.disk_ring.specs.Rings.{Passed}
 use Rattle.piece_item.specs.declared.butler_ends.ButlerEnds.{ButlerEnds}
-use Rattle.process_cycle.specs.declared.ends.ProcessEnds.{ProcessEnds}
+use Rattle.process_ends.specs.declared.ends.ProcessEnds.{ProcessEnds}
 
 -- two ends of a ring know all of each other
 pub record KnowEachOther {T : Type 0} (a : Sender T) (b : Receiver T) : Type 0 where

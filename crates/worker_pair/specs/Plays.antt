@@ -3,7 +3,7 @@ use Rattle.std.specs.Prelude.{◌≡◌, true, false, Result, OnOk, OnErr}
 use Rattle.ses_io.specs.Outside.{MediaOutside, SourceOutside, SinkOutside}
 use Rattle.process_cycle.specs.declared.fault.CycleFault.{CycleFault}
 use Rattle.process_cycle.specs.Cycles.{MakesEntry, CycleReads, CycleWrites, HasStopped, next_bytes}
-use Rattle.process_cycle.specs.Ends.{EndsMeet}
+use Rattle.process_ends.specs.Ends.{EndsMeet}
 use Rattle.process_cycle.specs.Looked.{HasLooked, Keeps, LooksAtAll}
 use Rattle.process_cycle.specs.ProcessState.{ProcessState}
 use Rattle.worker_pair.specs.declared.pair.Pair.{Pair}

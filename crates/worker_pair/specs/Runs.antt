@@ -8,7 +8,7 @@ use Rattle.engine_model.specs.Edits.{keeps_forms}
 use Rattle.edition_log.specs.EditionState.{IsEditionOf}
 use Rattle.butler.specs.Serving.{IsServing, IsTrueTo}
 use Rattle.master_blocks.specs.State.{IsMasterOf}
-use Rattle.process_cycle.specs.Ends.{AreOtherEnds}
+use Rattle.process_ends.specs.Ends.{AreOtherEnds}
 use Rattle.process_cycle.specs.Captured.{Hears}
 use Rattle.process_cycle.specs.ProcessState.{entries_of, sound_of}
 use Rattle.process_cycle.specs.Promised.{Promises, IsMastered}

@@ -15,7 +15,7 @@ use Rattle.capture_drain.specs.Files.{tape_of}
 use Rattle.butler.specs.ButlerState.{ButlerState as Butler}
 use Rattle.butler.specs.Begins.{IsGiven}
 use Rattle.butler.specs.Serving.{IsServing, IsTrueTo}
-use Rattle.process_cycle.specs.declared.ends.ProcessEnds.{ProcessEnds}
+use Rattle.process_ends.specs.declared.ends.ProcessEnds.{ProcessEnds}
 use Rattle.process_cycle.specs.ProcessState.{ProcessState as Process}
 use Rattle.process_cycle.specs.Playing.{HasBegun}
 use Rattle.worker_pair.specs.declared.beginning.Start.{Start}

@@ -18,7 +18,7 @@ use Rattle.butler.specs.Serving.{IsServing}
 use Rattle.butler.specs.Turns.{Receives, TakesAreKept, AllSend, StaysTrue, Answers}
 use Rattle.butler.specs.Faults.{Fails, KeepsRest}
 use Rattle.process_cycle.specs.declared.fault.CycleFault.{CycleFault}
-use Rattle.process_cycle.specs.Ends.{EndsMeet}
+use Rattle.process_ends.specs.Ends.{EndsMeet}
 use Rattle.worker_pair.specs.declared.ending.Ending.{Ending}
 use Rattle.worker_pair.specs.declared.pair.Pair.{Pair}
 use Rattle.worker_pair.specs.Begun.{At, served_at}

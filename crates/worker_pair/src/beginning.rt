@@ -1,7 +1,7 @@
 //! What the workers of a run are made of, and how they are made.
 ghost use Rattle.std.specs.Prelude.{◌≡◌, IfOk, IfErr};
 ghost use Rattle.session_model.specs.declared.session.Session.{Session as Opening};
-ghost use Rattle.process_cycle.specs.Ends.{AreNew};
+ghost use Rattle.process_ends.specs.Ends.{AreNew};
 ghost use Rattle.run_rings.specs.Laws.{AreNewForButler};
 ghost use Rattle.worker_pair.specs.Starts.{HaveWorkers, MayBegin, given_of};
 
@@ -9,7 +9,8 @@ use audio_source::Sources;
 use butler::Butler;
 use edition_log::Edition;
 use piece_item::ButlerEnds;
-use process_cycle::{Process, ProcessEnds, ProcessParts};
+use process_cycle::{Process, ProcessParts};
+use process_ends::ProcessEnds;
 use ses_io::{Media, Sink, Source};
 use std::alloc::Global;
 use wav_codec::WavInfo;

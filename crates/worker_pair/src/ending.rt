@@ -11,7 +11,8 @@ use cycle_journal::Journal;
 use disk_ring::{RingOut, meet};
 use edition_log::Edition;
 use piece_item::Ack;
-use process_cycle::{ProcessEnds, ProcessParts, meet_ends};
+use process_cycle::ProcessParts;
+use process_ends::{ProcessEnds, meet_ends};
 use ses_io::{Media, Sink, Source};
 
 /// The butler in the newest edition, and the ends that the process left.

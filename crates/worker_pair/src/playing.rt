@@ -4,7 +4,7 @@ ghost use Rattle.std.specs.Prelude.{◌≡◌, true, [], length, IfErr, OnOk};
 ghost use Rattle.ses_io.specs.Outside.{Writes};
 ghost use Rattle.master_blocks.specs.Bytes.{head_bytes, end_bytes};
 ghost use Rattle.process_cycle.specs.declared.fault.CycleFault.TheVariants.{MasterFault};
-ghost use Rattle.process_cycle.specs.Ends.{MayMeetPlays};
+ghost use Rattle.process_ends.specs.Ends.{MayMeetPlays};
 ghost use Rattle.process_cycle.specs.Looked.{HasLooked};
 ghost use Rattle.process_cycle.specs.Playing.{IsPlaying};
 ghost use Rattle.process_cycle.specs.ProcessState.{Playing};

@@ -1,12 +1,11 @@
 //! How a process meets the butler on one thread, and what it leaves when it is taken apart.
 ghost use Rattle.std.specs.Prelude.{◌≡◌};
-ghost use Rattle.process_cycle.specs.Ends.{shut_ends};
+ghost use Rattle.process_ends.specs.Ends.{shut_ends};
 
-use crate::ends::ProcessEnds;
-use crate::meeting::{close_all, meet_ends, meet_plays};
 use crate::process::Process;
 use cycle_journal::Journal;
 use piece_item::ButlerEnds;
+use process_ends::{ProcessEnds, close_all, meet_ends, meet_plays};
 use ring_meeting::OtherEnds;
 use ses_io::{Sink, Source};
 
@@ -21,7 +20,7 @@ pub struct ProcessParts<I, W> {
 }
 
 impl<I: Source, W: Sink> OtherEnds for Process<I, W> {
-    ghost use Rattle.process_cycle.specs.Ends.{MayMeet, MayMeetPlays};
+    ghost use Rattle.process_ends.specs.Ends.{MayMeet, MayMeetPlays};
     ghost use Rattle.process_cycle.specs.Meetings.{MeetsOthers};
 
     ghost meeting = { record {

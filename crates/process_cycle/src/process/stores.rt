@@ -5,7 +5,7 @@ ghost use Rattle.track_capture.specs.declared.capture.TrackCapture.{TrackCapture
 ghost use Rattle.track_capture.specs.Counted.{Counts, HasBox};
 ghost use Rattle.track_playback.specs.declared.playback.TrackPlayback.{TrackPlayback as TrackPlaybackRecord};
 ghost use Rattle.track_playback.specs.Played.{IsNewPlayback};
-ghost use Rattle.process_cycle.specs.Ends.{block_of};
+ghost use Rattle.process_ends.specs.Ends.{block_of};
 
 use crate::ack_sender::AckSender;
 use cycle_journal::Journal;

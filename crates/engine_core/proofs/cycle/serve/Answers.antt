@@ -3,10 +3,10 @@ use Rattle.std.specs.Prelude.{true, false}
 use Rattle.machine_model.specs.Rest.{BeforeLook, BeforeTurn}
 use Rattle.worker_pair.specs.Tied.{rings_of}
 use Rattle.engine_core.specs.Letters.{TurnsOn, TurnIsB}
-use Rattle.engine_core.specs.Started.{now_of}
+use Rattle.engine_core.specs.Now.{now_of}
 use Rattle.engine_core.proofs.SerialMachineLemmas as machine
 use Rattle.engine_core.proofs.ServeLemmas as serve
-use Rattle.engine_core.proofs.LastTurnLemmas.{received_last}
+use Rattle.run_end.proofs.LastTurnLemmas.{received_last}
 use Rattle.engine_core.proofs.LostLemmas as lost
 use Rattle.engine_core.proofs.FedServeLemmas as fed
 use Rattle.engine_core.proofs.cycle.serve.Goals as goal

@@ -1,5 +1,5 @@
 use Rattle.std.proofs.Common.{sym, ap, ◌∙◌}
-use Rattle.engine_core.specs.Finished.{finished_of}
+use Rattle.engine_core.specs.Played.{finished_of}
 use Rattle.engine_core.proofs.BeginLemmas.{none_by}
 use Rattle.engine_core.proofs.running.play.Goals as goal
 
@@ -27,9 +27,7 @@ returns-clause-played g c = let did = c.finish-ended.ensures in record {
   written = did.written;
   counts = did.counts;
   takes = did.takes;
-  passed = did.passed;
+  rings = did.rings;
   genuine = did.genuine;
-  left = did.left;
-  acks = did.acks;
   as_machine = did.as_machine;
 }

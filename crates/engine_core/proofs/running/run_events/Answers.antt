@@ -1,8 +1,8 @@
-use Rattle.engine_core.specs.Takes.{LeavesTakes}
-use Rattle.engine_core.specs.Beginning.{started_of}
-use Rattle.engine_core.specs.Finished.{FaultsAreCounted, LeavesRings, SendsGenuine, ended_of}
+use Rattle.run_end.specs.Takes.{LeavesTakes}
+use Rattle.run_end.specs.Beginning.{started_of}
+use Rattle.run_end.specs.Finished.{FaultsAreCounted, LeavesRings, SendsGenuine, run_end_of}
 use Rattle.engine_core.specs.Lines.{GoesByItsLines}
-use Rattle.engine_core.specs.Mastered.{MakesItsCycles, ReadsItsInput, WritesTheMaster}
+use Rattle.run_end.specs.Mastered.{MakesItsCycles, InputGave, WritesTheMaster}
 use Rattle.engine_core.proofs.RunLemmas as ends
 use Rattle.engine_core.proofs.running.run_events.Goals as goal
 
@@ -23,10 +23,10 @@ pub returns-clause-cycles : goal.returns-clause-cycles
 returns-clause-cycles g c = ends.if_played (ends.Played g.M.Media.outside g.I.Source.outside g.C.Source.outside g.W.Sink.outside g.O.Sink.outside c.args.o c.requires c.args.events.now) (MakesItsCycles c.args.o) (ends.cycles_of g.M.Media.outside g.I.Source.outside g.C.Source.outside g.W.Sink.outside g.O.Sink.outside c.args.o c.requires c.args.events.now) c.play.result c.play.ensures.played
 
 pub returns-clause-input : goal.returns-clause-input
-returns-clause-input g c = ends.if_played (ends.Played g.M.Media.outside g.I.Source.outside g.C.Source.outside g.W.Sink.outside g.O.Sink.outside c.args.o c.requires c.args.events.now) (ReadsItsInput g.I.Source.outside (started_of g.M.Media.outside g.I.Source.outside g.W.Sink.outside c.args.o)) (ends.input_of g.M.Media.outside g.I.Source.outside g.C.Source.outside g.W.Sink.outside g.O.Sink.outside c.args.o c.requires c.args.events.now) c.play.result c.play.ensures.played
+returns-clause-input g c = ends.if_played (ends.Played g.M.Media.outside g.I.Source.outside g.C.Source.outside g.W.Sink.outside g.O.Sink.outside c.args.o c.requires c.args.events.now) (InputGave g.I.Source.outside c.args.o) (ends.input_of g.M.Media.outside g.I.Source.outside g.C.Source.outside g.W.Sink.outside g.O.Sink.outside c.args.o c.requires c.args.events.now) c.play.result c.play.ensures.played
 
 pub returns-clause-takes : goal.returns-clause-takes
-returns-clause-takes g c = ends.if_played (ends.Played g.M.Media.outside g.I.Source.outside g.C.Source.outside g.W.Sink.outside g.O.Sink.outside c.args.o c.requires c.args.events.now) (λ f. LeavesTakes g.M.Media.outside g.I.Source.outside (started_of g.M.Media.outside g.I.Source.outside g.W.Sink.outside c.args.o) (ended_of f)) (ends.takes_of g.M.Media.outside g.I.Source.outside g.C.Source.outside g.W.Sink.outside g.O.Sink.outside c.args.o c.requires c.args.events.now) c.play.result c.play.ensures.played
+returns-clause-takes g c = ends.if_played (ends.Played g.M.Media.outside g.I.Source.outside g.C.Source.outside g.W.Sink.outside g.O.Sink.outside c.args.o c.requires c.args.events.now) (λ f. LeavesTakes g.M.Media.outside g.I.Source.outside (started_of g.M.Media.outside g.I.Source.outside g.W.Sink.outside c.args.o) (run_end_of f)) (ends.takes_of g.M.Media.outside g.I.Source.outside g.C.Source.outside g.W.Sink.outside g.O.Sink.outside c.args.o c.requires c.args.events.now) c.play.result c.play.ensures.played
 
 pub returns-clause-counts : goal.returns-clause-counts
 returns-clause-counts g c = ends.if_played (ends.Played g.M.Media.outside g.I.Source.outside g.C.Source.outside g.W.Sink.outside g.O.Sink.outside c.args.o c.requires c.args.events.now) (FaultsAreCounted g.M.Media.outside g.I.Source.outside g.C.Source.outside g.W.Sink.outside g.O.Sink.outside c.args.o) (ends.counts_of g.M.Media.outside g.I.Source.outside g.C.Source.outside g.W.Sink.outside g.O.Sink.outside c.args.o c.requires c.args.events.now) c.play.result c.play.ensures.played

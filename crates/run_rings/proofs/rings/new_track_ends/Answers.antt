@@ -1,6 +1,6 @@
 use Rattle.std.proofs.Common.{◌≡◌, ◌*◌, sym, ap, arith, ◌∙◌}
 use Rattle.std.specs.Prelude.{slice_index_or}
-use Rattle.process_cycle.specs.Ends.{block_of}
+use Rattle.process_ends.specs.Ends.{block_of}
 use Rattle.run_rings.proofs.RingLemmas.{channels_here, pushed}
 use Rattle.run_rings.proofs.rings.new_track_ends.Goals as goal
 

@@ -32,7 +32,7 @@ returns-in-Ok-run_events-clause-told g c = told_by_report g.M.Media.outside g.I.
 pub returns-in-Ok-run_events-clause-played : goal.returns-in-Ok-run_events-clause-played
 returns-in-Ok-run_events-clause-played g c = let e = c.in-Ok-run_events.ensures in was_played g.M.Media.outside g.I.Source.outside c.args.world c.args.asked.now c.in-Ok.ready c.in-Ok.ensures.ready
     g.C.Source.outside g.W.Sink.outside g.O.Sink.outside c.as_slice.result.now c.as_slice.ensures.value c.in-Ok-run_events.finished
-    (record { lines = e.lines; rings = e.rings; genuine = e.genuine; master = λ tells told. (e.master tells told).whole; front = λ tells told. (e.master tells told).front; cycles = e.cycles; input = e.input; takes = e.takes; counts = e.counts })
+    (record { lines = e.lines; rings = e.rings; genuine = e.genuine; master = λ tells told. (e.master tells told).whole; cut_off = λ tells told. (e.master tells told).cut_off; cycles = e.cycles; input = e.input; takes = e.takes; counts = e.counts })
     c.sound_of_the_rest.ensures c.report.result c.report.ensures.hands_on c.report.ensures.reports
 
 pub returns-in-Ok-run_events-clause-causes : goal.returns-in-Ok-run_events-clause-causes
@@ -40,7 +40,7 @@ returns-in-Ok-run_events-clause-causes g c = let e = c.in-Ok-run_events.ensures 
     (Some c.in-Ok-run_events.finished.journal)
     (played_by g.M.Media.outside g.I.Source.outside c.args.world c.args.asked.now c.in-Ok.ready c.in-Ok.ensures.ready
     g.C.Source.outside g.W.Sink.outside g.O.Sink.outside c.as_slice.result.now c.as_slice.ensures.value c.in-Ok-run_events.finished
-    (record { lines = e.lines; rings = e.rings; genuine = e.genuine; master = λ tells told. (e.master tells told).whole; front = λ tells told. (e.master tells told).front; cycles = e.cycles; input = e.input; takes = e.takes; counts = e.counts })
+    (record { lines = e.lines; rings = e.rings; genuine = e.genuine; master = λ tells told. (e.master tells told).whole; cut_off = λ tells told. (e.master tells told).cut_off; cycles = e.cycles; input = e.input; takes = e.takes; counts = e.counts })
     c.sound_of_the_rest.ensures c.report.result c.report.ensures.hands_on c.report.ensures.reports)
 
 pub returns-in-Ok-run_events-clause-complete : goal.returns-in-Ok-run_events-clause-complete
@@ -48,7 +48,7 @@ returns-in-Ok-run_events-clause-complete g c = let e = c.in-Ok-run_events.ensure
     (Some c.in-Ok-run_events.finished.journal) c.report.ensures.hands_on.journal
     (played_by g.M.Media.outside g.I.Source.outside c.args.world c.args.asked.now c.in-Ok.ready c.in-Ok.ensures.ready
     g.C.Source.outside g.W.Sink.outside g.O.Sink.outside c.as_slice.result.now c.as_slice.ensures.value c.in-Ok-run_events.finished
-    (record { lines = e.lines; rings = e.rings; genuine = e.genuine; master = λ tells told. (e.master tells told).whole; front = λ tells told. (e.master tells told).front; cycles = e.cycles; input = e.input; takes = e.takes; counts = e.counts })
+    (record { lines = e.lines; rings = e.rings; genuine = e.genuine; master = λ tells told. (e.master tells told).whole; cut_off = λ tells told. (e.master tells told).cut_off; cycles = e.cycles; input = e.input; takes = e.takes; counts = e.counts })
     c.sound_of_the_rest.ensures c.report.result c.report.ensures.hands_on c.report.ensures.reports)
     (told_by_report g.M.Media.outside g.I.Source.outside c.args.world c.args.asked.now c.in-Ok.ready c.in-Ok.ensures.ready g.O.Sink.outside
     c.in-Ok-run_events.finished c.report.result.status c.report.result.world.out c.report.ensures.reports)

@@ -1,5 +1,5 @@
 use Rattle.std.proofs.Common.{sym, subst}
-use Rattle.process_cycle.specs.Ends.{AreNew}
+use Rattle.process_ends.specs.Ends.{AreNew}
 use Rattle.worker_pair.proofs.StartLemmas as begin
 use Rattle.worker_pair.proofs.beginning.new_workers.Goals as goal
 

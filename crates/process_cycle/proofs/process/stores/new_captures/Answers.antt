@@ -2,7 +2,7 @@ use Rattle.std.proofs.Common.{◌≡◌, ◌*◌, ◌+◌, [], length, slice_ind
 use Rattle.std.specs.Prelude.{slice_get}
 use Rattle.std.proofs.lemmas.List.{length_push}
 use Rattle.track_capture.specs.Counted.{Counts, HasBox}
-use Rattle.process_cycle.specs.Ends.{block_of}
+use Rattle.process_ends.specs.Ends.{block_of}
 use Rattle.process_cycle.proofs.NewLemmas.{channels_here, each_and_last}
 use Rattle.process_cycle.proofs.process.stores.new_captures.Goals as goal
 

@@ -2,7 +2,7 @@
 use Rattle.std.proofs.Common.{ap, subst, sym, slice_index_or, ◌∙◌}
 use Rattle.std.specs.Prelude.{slice_get}
 use Rattle.track_playback.specs.Played.{IsNewPlayback}
-use Rattle.process_cycle.specs.Ends.{block_of}
+use Rattle.process_ends.specs.Ends.{block_of}
 use Rattle.process_cycle.proofs.process.stores.new_stores.Goals as goal
 
 pub returns-clause-each : goal.returns-clause-each

@@ -1,6 +1,6 @@
 use Rattle.std.proofs.Common.{rules, ◌≡◌, ◌*◌, ◌∙◌, List, get_or, sym, ap}
 use Rattle.session_model.specs.declared.route.Route.{Route}
-use Rattle.process_cycle.specs.Ends.{block_of}
+use Rattle.process_ends.specs.Ends.{block_of}
 use Rattle.process_tests.proofs.RingLemmas as rings
 use Rattle.process_tests.proofs.other_ends.OtherEnds.parted.Goals as goal
 

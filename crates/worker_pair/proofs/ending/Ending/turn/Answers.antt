@@ -1,7 +1,7 @@
 use Rattle.std.proofs.Common.{sym, subst}
 use Rattle.butler.specs.Serving.{AreStocked}
 use Rattle.piece_item.specs.declared.butler_ends.ButlerEnds.{ButlerEnds}
-use Rattle.process_cycle.specs.Ends.{EndsMeet, MayMeet}
+use Rattle.process_ends.specs.Ends.{EndsMeet, MayMeet}
 use Rattle.worker_pair.proofs.MetLemmas.{resumes}
 use Rattle.worker_pair.proofs.TurnLemmas as turns
 use Rattle.worker_pair.proofs.LessLemmas.{turns_turned}

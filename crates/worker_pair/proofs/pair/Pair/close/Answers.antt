@@ -1,7 +1,7 @@
 use Rattle.std.proofs.Common.{◌≡◌, refl, sym, ap, subst, ◌∙◌}
 use Rattle.butler.specs.ButlerState.{resumed}
 use Rattle.butler.specs.Serving.{AreStocked}
-use Rattle.process_cycle.specs.Ends.{EndsMeet, MayMeet, Meet, shut_ends}
+use Rattle.process_ends.specs.Ends.{EndsMeet, MayMeet, Meet, shut_ends}
 use Rattle.worker_pair.specs.declared.ending.Stopped.{Stopped}
 use Rattle.worker_pair.specs.Closes.{Closes, ClosesAsMachine}
 use Rattle.worker_pair.specs.Runs.{Serves}

@@ -1,5 +1,5 @@
 use Rattle.std.proofs.Common.{length, ap, sym, subst, ◌∙◌}
-use Rattle.process_cycle.specs.Ends.{AreOtherEnds}
+use Rattle.process_ends.specs.Ends.{AreOtherEnds}
 use Rattle.process_cycle.proofs.MeetingLemmas.{knows_after_a_meeting, meets_others}
 use Rattle.process_cycle.proofs.TellingLemmas.{ends_told}
 use Rattle.process_cycle.proofs.process.parts.ProcessOtherEnds.meet_plays.Goals as goal

@@ -1,5 +1,0 @@
-use Rattle.std.proofs.Common.{◌≡◌, take}
-use Rattle.engine_core.proofs.lists.copy_edits.Given as goal
-
-abbrev pub invariant-loop-k : goal.invariant-loop-k
-invariant-loop-k l = record { copied : l.edits.items ≡ take l.k l.accepted; room : l.edits.room ≡ l.fn.edits.room }

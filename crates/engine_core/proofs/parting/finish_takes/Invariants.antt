@@ -1,4 +1,0 @@
-use Rattle.engine_core.proofs.parting.finish_takes.Given as goal
-
-abbrev pub ghost-finish : goal.ghost-finish
-ghost-finish g a = g.run

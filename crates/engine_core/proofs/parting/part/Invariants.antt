@@ -1,4 +1,0 @@
-use Rattle.engine_core.proofs.parting.part.Given as goal
-
-abbrev pub ghost-finish_takes : goal.ghost-finish_takes
-ghost-finish_takes g a = g.run

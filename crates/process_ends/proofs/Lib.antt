@@ -1,0 +1,2 @@
+-- Ends that meet and are closed, one after the other.
+pub mod MeetLemmas
