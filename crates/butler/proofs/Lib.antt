@@ -14,6 +14,7 @@ pub mod TurnStepsLemmas
 pub mod SendOnLemmas
 pub mod FlushedLemmas
 pub mod FaultLemmas
+pub mod TakesLemmas
 pub mod AnswerLemmas
 pub mod MeetingLemmas
 pub mod SourceLemmas

@@ -1,5 +1,5 @@
 -- What calls of control do, one after another: the lines that were taken, and the replies that went out.
-use Rattle.std.specs.Prelude.{◌≡◌, ℕ, ◌≤◌, Bool, true, false, List, [], ◌++◌, length, Option, Some, None}
+use Rattle.std.specs.Prelude.{◌≡◌, ℕ, ◌≤◌, Bool, true, false, List, [], ◌∷◌, ◌++◌, length, Option, Some, None}
 use Rattle.ses_io.specs.Faults.{risen}
 use Rattle.ses_io.specs.Outside.{SourceOutside, SinkOutside}
 use Rattle.ses_io.specs.Streams.{AppendsSome}
@@ -7,7 +7,7 @@ use Rattle.engine_model.specs.Lines.{Line}
 use Rattle.engine_model.specs.Replies.{Reply}
 use Rattle.control_lines.specs.Begun.{has_no_feed}
 use Rattle.control_lines.specs.Lines.{LinesState, to_come, Takes}
-use Rattle.control_desk.specs.Texts.{reply_texts}
+use Rattle.control_desk.specs.Texts.{reply_text, reply_texts}
 use Rattle.control_desk.specs.Standing.{is_ended, read_failed, write_failed}
 use Rattle.control_desk.specs.State.{ControlState, lines_in}
 
@@ -32,10 +32,17 @@ pub record ReadsLines {C : Type 0} (source : SourceOutside C) (lines : List Line
   pub first : source.tells → lines_in (to_come source old) ≡ lines ++ lines_in (lost ++ to_come source new)
   pub counted : IsCounted (source.faults old.source) (source.faults new.source) was is
 
--- Replies went out: all of them, whole, unless a write failed; then a front of them.
+-- The write of a reply failed: those before it went out whole, and a front of it. It is the last that was given.
+pub record HasLastInPart {O : Type 0} (sink : SinkOutside O) (replies : List Reply) (old new : O) : Type 0 where
+  pub whole : List Reply
+  pub last : Reply
+  pub are : replies ≡ whole ++ last ∷ []
+  pub front : sink.tells → AppendsSome (sink.held old ++ reply_texts whole) (sink.held new) (reply_text last)
+
+-- Replies went out: all of them, whole, unless a write failed; then the last of them was cut off.
 pub record AddsReplies {O : Type 0} (sink : SinkOutside O) (replies : List Reply) (old new : O) (was is : Bool) : Type 0 where
   pub all : sink.tells → is ≡ false → sink.held new ≡ sink.held old ++ reply_texts replies
-  pub front : sink.tells → AppendsSome (sink.held old) (sink.held new) (reply_texts replies)
+  pub cut : was ≡ false → is ≡ true → HasLastInPart sink replies old new
   pub counted : IsCounted (sink.faults old) (sink.faults new) was is
 
 module _ {C O : Type 0} where

@@ -26,10 +26,11 @@ abbrev pub outcome : Bool → Result (Unit {0}) Failed
 outcome true = Err failed
 outcome false = Ok tt
 
--- replies were written; where there is none, nothing was
+-- a reply was written; where there is none, nothing was; and no call writes two
 abbrev pub PutsOut : {O : Type 0} → SinkOutside O → List Reply → O → O → Bool → Type 0
 PutsOut sink [] old new fault = (new ≡ old) × (fault ≡ false)
-PutsOut sink (reply ∷ replies) old new fault = Writes sink (reply_texts (reply ∷ replies)) old new (outcome fault)
+PutsOut sink (reply ∷ []) old new fault = Writes sink (reply_texts (reply ∷ [])) old new (outcome fault)
+PutsOut sink (reply ∷ another ∷ more) old new fault = ⊥
 
 module _ {C O : Type 0} where
   -- They were, and control stands so unless a write failed. Its lines are as they were.

@@ -174,7 +174,7 @@ module _ {M I C W O : Type 0} (media : MediaOutside M) (inputs : SourceOutside I
         first_heard media inputs sinks (started_of media inputs sinks o) run under_way tied_now none_made,
       );
       plays = λ fine. subst (PlayAsPlain (s media inputs sinks o) run.pair.edition.edits) (sym none_made) tt;
-      none_lost = λ fine t d here. (under_way.rests.promises.captured t d here).heads ∙ ap (λ (es : List engine.Entry). map (λ l. l.head) (losses t (reverse es))) none_made;
+      none_lost = λ t d here. (under_way.rests.promises.captured t d here).heads ∙ ap (λ (es : List engine.Entry). map (λ l. l.head) (losses t (reverse es))) none_made;
       paced = subst (λ l. HasPaced (s media inputs sinks o) o.cycles (is_played_out run) []
           (standing_by (shown_core (s media inputs sinks o) l (entries_of run.pair.process)) (control_of o.world.control o.world.out o.script).standing [])) (sym none)
           (subst (λ l. HasPaced (s media inputs sinks o) o.cycles (is_played_out run) [] (standing_by (shown_core (s media inputs sinks o) [] l) (control_of o.world.control o.world.out o.script).standing [])) (sym none_made)

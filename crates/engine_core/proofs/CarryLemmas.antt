@@ -35,7 +35,12 @@ use Rattle.worker_pair.specs.Never.{starts_recording}
 use Rattle.worker_pair.specs.Steps as pair
 use Rattle.worker_pair.specs.Tied.{IsTied}
 use Rattle.engine_core.proofs.QuitLemmas.{quits_so}
-use Rattle.engine_core.specs.Carrying.{IsQuietScript, MayCarry, is_quiet}
+use Rattle.engine_core.specs.declared.run.Run.{Run}
+use Rattle.engine_core.specs.Carrying.{IsQuietScript, MayCarry, OnlyTheEdition, is_quiet}
+
+-- where the pair has another edition and nothing else, so has the run
+pub only_published : {V I W : Type 0} (r : Run V I W) (p : Pair V I W) → p ≡ record r.pair { edition = p.edition } → OnlyTheEdition r (record r { pair = p })
+only_published r p same = ap (λ z. record r { pair = z }) same
 
 -- ---- what is carried out
 

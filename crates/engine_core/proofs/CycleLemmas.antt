@@ -33,7 +33,7 @@ use Rattle.run_end.specs.declared.failures.Failures.{Failures}
 use Rattle.engine_core.specs.declared.run.Run.{Run}
 use Rattle.run_end.specs.Failures.{IsFaultCount, after_cycle, has_stopped}
 use Rattle.run_end.specs.Depths.{HaveDepths}
-use Rattle.run_end.specs.CutOff.{IsCutInCycle}
+use Rattle.process_cycle.specs.CutOff.{IsCutInCycle}
 use Rattle.run_end.specs.Started.{Started}
 use Rattle.engine_core.specs.Now.{now_of, AreCounted}
 use Rattle.engine_core.specs.UnderWay.{InputIsShort, IsInputOf, IsUnderWay}

@@ -88,6 +88,16 @@ plays_met {T} a b c d many meet t q hq = let y = also_there d b t q meet.receive
       ∙ ap (λ (z : Receiver T). z.received) (get_or_from_slice_get b t y.0 y.0 y.1),
 )
 
+-- what one end has received, where nothing else is asked there
+grown : (old now : List (Receiver Item)) (t : ℕ) (r mid : Receiver Item) → slice_get old t ≡ Some r → slice_get now t ≡ Some mid → IsPrefix (slice_index_or old t r).received (slice_index_or now t r).received →
+    IsPrefix r.received mid.received
+grown old now t r mid here there more = subst (λ (z : Receiver Item). IsPrefix r.received z.received) (get_or_from_slice_get now t mid r there)
+    (subst (λ (z : Receiver Item). IsPrefix z.received (slice_index_or now t r).received) (get_or_from_slice_get old t r r here) more)
+
+-- where all was received before, all is still
+all_received : (q mid x : Receiver Item) (d : Sender Item) → q.received ≡ mid.received → IsPrefix mid.received d.sent → x.received ≡ d.sent → IsPrefix x.received mid.received → q.received ≡ d.sent
+all_received q mid x d same begins was more = same ∙ same_begins mid.received d.sent begins (subst (λ l. IsPrefix l mid.received) was more)
+
 longer : (e : Entry) (before : List Entry) → before ≡ e ∷ before → ⊥
 longer e before same = omega (arith, ap length same)
 
@@ -146,18 +156,32 @@ module _ {V I W : Type 0} (media : MediaOutside V) (inputs : SourceOutside I) (s
     send_at : slice_get (sends_of served) t ≡ Some send
     all : q.received ≡ send.sent
 
+  many_g : length (plays_of g) ≡ length (sends_of g)
+  many_g = looked.met.ends.plays.receivers ∙ looked.looks.many ∙ many ∙ sym looked.met.ends.plays.senders
+
+  -- what one had received it has
+  grows_at : (t : ℕ) (x mid : Receiver Item) → slice_get (plays_of served) t ≡ Some x → slice_get looked.process.ends.plays.items t ≡ Some mid → IsPrefix x.received mid.received
+  grows_at t x mid hx hmid = let within = slice_get_within (plays_of served) t x hx in
+      let e = item_at served.pair.process.playbacks t (subst (λ n. t < n) (running.playing.plays ∙ sym running.playing.playbacks) within) in
+      grown (plays_of served) looked.process.ends.plays.items t x mid hx hmid (looked.looks.looks t x e.0 within).ring.received
+
+  looked_by : (t : ℕ) (f : Sender Item) (q : Receiver Item) → slice_get (sends_of g) t ≡ Some f → slice_get (plays_of g) t ≡ Some q → HasAll t q
+  looked_by t f q hf hq = let a = track_at s served.pair g.pair looked many t f q hf hq in let x = also_there looked.process.ends.plays.items (plays_of served) t a.mid looked.looks.many a.mid_at in record {
+    send = a.send;
+    send_at = a.send_at;
+    all = all_received q a.mid x.0 a.send a.received a.begins (heard t a.send x.0 a.send_at x.1) (grows_at t x.0 a.mid x.1 a.mid_at);
+  }
+
   looked_at : (t : ℕ) (q : Receiver Item) → slice_get (plays_of g) t ≡ Some q → HasAll t q
-  looked_at t q hq = let m = looked.met.ends.plays in let y = also_there (plays_of g) looked.process.ends.plays.items t q m.receivers hq in
-      let f = also_there (plays_of g) (sends_of g) t q (m.receivers ∙ looked.looks.many ∙ many ∙ sym m.senders) hq in let a = track_at s served.pair g.pair looked many t f.0 q f.1 hq in
-      let x = also_there looked.process.ends.plays.items (plays_of served) t a.mid looked.looks.many a.mid_at in
-      let e = item_at served.pair.process.playbacks t (subst (λ n. t < n) (running.playing.plays ∙ sym running.playing.playbacks) (slice_get_within (plays_of served) t x.0 x.1)) in
-      let looks = looked.looks.looks t x.0 e.0 (slice_get_within (plays_of served) t x.0 x.1) in
-      let grows : IsPrefix x.0.received a.mid.received = subst (λ (z : Receiver Item). IsPrefix x.0.received z.received) (get_or_from_slice_get looked.process.ends.plays.items t a.mid x.0 a.mid_at)
-      (subst (λ (z : Receiver Item). IsPrefix z.received (slice_index_or looked.process.ends.plays.items t x.0).received) (get_or_from_slice_get (plays_of served) t x.0 x.0 x.1) looks.ring.received) in record {
-        send = a.send;
-        send_at = a.send_at;
-        all = a.received ∙ same_begins a.mid.received a.send.sent a.begins (subst (λ l. IsPrefix l a.mid.received) (heard t a.send x.0 a.send_at x.1) grows);
-      }
+  looked_at t q hq = let f = also_there (plays_of g) (sends_of g) t q many_g hq in looked_by t f.0 q f.1 hq
+
+  -- what a track had sent, and that all of it was received
+  sent_looked : (t : ℕ) (x : Sender Item) → slice_get (sends_of g) t ≡ Some x → (d : Sender Item) × (slice_get (sends_of served) t ≡ Some d) × (x.sent ≡ d.sent)
+  sent_looked t x hx = let q = also_there (sends_of g) (plays_of g) t x (sym many_g) hx in let a = track_at s served.pair g.pair looked many t x q.0 hx q.1 in (a.send, a.send_at, a.sent)
+
+  heard_looked : (t : ℕ) (x : Sender Item) (y : Receiver Item) → slice_get (sends_of g) t ≡ Some x → slice_get (plays_of g) t ≡ Some y → y.received ≡ x.sent
+  heard_looked t x y hx hy = let a = track_at s served.pair g.pair looked many t x y hx hy in let b = looked_by t x y hx hy in
+      b.all ∙ ap (λ (z : Sender Item). z.sent) (same_Some b.send a.send (sym b.send_at ∙ a.send_at)) ∙ sym a.sent
 
   -- ---- the entry
 
@@ -250,9 +274,6 @@ module _ {V I W : Type 0} (media : MediaOutside V) (inputs : SourceOutside I) (s
   playing_new : new.pair.playing ≡ served.pair.playing
   playing_new = ap (λ (p : Pair V I W). p.playing) makes.cycles.same ∙ ap (λ (p : Pair V I W). p.playing) looked.same
 
-  many_g : length (plays_of g) ≡ length (sends_of g)
-  many_g = looked.met.ends.plays.receivers ∙ looked.looks.many ∙ many ∙ sym looked.met.ends.plays.senders
-
   module _ (c : ProcessState I W) (met : MeetsAfter g.pair c new.pair) (plays_same : c.ends.plays.items ≡ plays_of g) (grows : (h : ℕ) → rolled h (made_of served) ≤ rolled h (made_of new))
       (acks : (h : ℕ) → next_block (acks_of c.ends.to_butler.sent) h ≡ rolled h (made_of new)) where
     meet_now : AllMeet (sends_of g) (plays_of g) (sends_of new) (plays_of new)
@@ -261,7 +282,7 @@ module _ {V I W : Type 0} (media : MediaOutside V) (inputs : SourceOutside I) (s
     -- what a track had sent
     sent_before : (t : ℕ) (f : Sender Item) → slice_get (sends_of new) t ≡ Some f → (d : Sender Item) × (slice_get (sends_of served) t ≡ Some d) × (f.sent ≡ d.sent)
     sent_before t f hf = let x = sends_met (sends_of g) (plays_of g) (sends_of new) (plays_of new) many_g meet_now t f hf in
-        let q = also_there (sends_of g) (plays_of g) t x.0 (sym many_g) x.1 in let a = track_at s served.pair g.pair looked many t x.0 q.0 x.1 q.1 in (a.send, a.send_at, x.2 ∙ a.sent)
+        let d = sent_looked t x.0 x.1 in (d.0, d.1, x.2 ∙ d.2)
 
     fed_after : IsFed s new
     fed_after = record {
@@ -277,8 +298,7 @@ module _ {V I W : Type 0} (media : MediaOutside V) (inputs : SourceOutside I) (s
 
     heard_after : AllHeard new
     heard_after t f q hf hq = let x = sends_met (sends_of g) (plays_of g) (sends_of new) (plays_of new) many_g meet_now t f hf in
-        let y = plays_met (sends_of g) (plays_of g) (sends_of new) (plays_of new) many_g meet_now t q hq in let a = track_at s served.pair g.pair looked many t x.0 y.0 x.1 y.1 in
-        let b = looked_at t y.0 y.1 in y.2 ∙ b.all ∙ ap (λ (z : Sender Item). z.sent) (same_Some b.send a.send (sym b.send_at ∙ a.send_at)) ∙ sym (x.2 ∙ a.sent)
+        let y = plays_met (sends_of g) (plays_of g) (sends_of new) (plays_of new) many_g meet_now t q hq in y.2 ∙ heard_looked t x.0 y.0 x.1 y.1 ∙ sym x.2
 
   -- where it stopped nothing was made
   stopped_by : (c : ProcessState I W) → MeetsAfter g.pair c new.pair → c ≡ record g.pair.process { input = c.input; master = c.master } → HasPlayed s served new

@@ -239,7 +239,7 @@ module _ {V I C W O : Type 0} (media : MediaOutside V) (inputs : SourceOutside I
           plays = λ fine. let begins = letter_begins source sink s (shows old.run) (edits_of old.run) (edits_of new.run) old.control new.control carried.letter in
               subst (PlayAsPlain s (edits_of new.run)) (sym made_same) (subst (λ (l : List Edit). PlayAsPlain s l (made_of old.run)) begins.1
               (plain_longer s (edits_of old.run) begins.0 (made_of old.run) (was.plays (sym (ap (λ (r : Run V I W). r.failed.read) carried.only) ∙ fine))));
-          none_lost = λ fine. subst NoneIsLost (sym (ap captures_of carried.only)) (was.none_lost (sym (ap (λ (r : Run V I W). r.failed.write) carried.only) ∙ fine));
+          none_lost = subst NoneIsLost (sym (ap captures_of carried.only)) was.none_lost;
           paced = subst (λ b. HasPaced s opening.cycles b (is.lines ++ does.taken) (standing_by (shown_core s (edits_of new.run) (made_of new.run)) new.control.standing (does.given ++ is.replies)))
               (flag ∙ sym over_same)
               (subst (λ l. HasPaced s opening.cycles (machine.is_played_out seen shown) (is.lines ++ does.taken) (standing_by (shown_core s (edits_of new.run) l) new.control.standing (does.given ++ is.replies)))

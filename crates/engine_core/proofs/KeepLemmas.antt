@@ -13,7 +13,7 @@ use Rattle.process_ends.specs.declared.ends.ProcessEnds.{ProcessEnds}
 use Rattle.process_cycle.specs.Cycles.{next_bytes}
 use Rattle.process_ends.specs.Ends.{AreOtherEnds, EndsMeet}
 use Rattle.process_cycle.specs.ProcessState.{Playing, ProcessState, items_of}
-use Rattle.worker_pair.specs.Begun.{At, Begun, headed}
+use Rattle.worker_pair.specs.Begun.{At, headed}
 use Rattle.worker_pair.specs.Runs.{Rests}
 use Rattle.worker_pair.specs.Tied.{rings_of}
 use Rattle.worker_pair.specs.declared.pair.Pair.{Pair}
@@ -26,7 +26,7 @@ use Rattle.run_end.proofs.CountedLemmas.{counted_still}
 use Rattle.engine_core.specs.declared.run.Run.{Run}
 use Rattle.run_end.specs.Started.{Started}
 use Rattle.engine_core.specs.Now.{AreCounted}
-use Rattle.run_end.specs.CutOff.{IsCutAtHead, IsCutInCycle}
+use Rattle.process_cycle.specs.CutOff.{IsCutAtHead, IsCutInCycle}
 use Rattle.engine_core.specs.UnderWay.{InputIsShort}
 
 -- ---- what failed
@@ -52,15 +52,15 @@ items_met q theirs ours_now theirs_now others meet = same_maps received_items re
 
 module _ {I W : Type 0} where
   -- the master, where nothing was noted, received, read or written since
-  pub cut_stands : (inputs : SourceOutside I) (sinks : SinkOutside W) (begun : Begun) (at : Playing) (p q : ProcessState I W) → q.journal ≡ p.journal → items_of q ≡ items_of p → q.input ≡ p.input →
-      q.master.sink ≡ p.master.sink → IsCutAtHead inputs sinks begun p ⊎ IsCutInCycle inputs sinks at p → IsCutAtHead inputs sinks begun q ⊎ IsCutInCycle inputs sinks at q
-  cut_stands inputs sinks begun at p q journal items input sink (inl cut) = inl record {
+  pub cut_stands : (inputs : SourceOutside I) (sinks : SinkOutside W) (at : Playing) (p q : ProcessState I W) → q.journal ≡ p.journal → items_of q ≡ items_of p → q.input ≡ p.input →
+      q.master.sink ≡ p.master.sink → IsCutAtHead inputs sinks at p ⊎ IsCutInCycle inputs sinks at p → IsCutAtHead inputs sinks at q ⊎ IsCutInCycle inputs sinks at q
+  cut_stands inputs sinks at p q journal items input sink (inl cut) = inl record {
     none = ap (λ (j : Listed Entry). j.items) journal ∙ cut.none;
-    read = subst (IsReadTo inputs (record { start = begun.start; blocks = 0 })) (sym input) cut.read;
-    front = λ tells. subst (λ n. AppendsSome begun.before (sinks.held q.master.sink) (head_bytes begun.session n)) (sym (ap (λ (j : Listed Entry). j.room) journal))
-        (subst (λ w. AppendsSome begun.before (sinks.held w) (head_bytes begun.session p.journal.room)) (sym sink) (cut.front tells));
+    read = subst (IsReadTo inputs (record { start = at.start; blocks = 0 })) (sym input) cut.read;
+    front = λ tells. subst (λ n. AppendsSome at.before (sinks.held q.master.sink) (head_bytes at.session n)) (sym (ap (λ (j : Listed Entry). j.room) journal))
+        (subst (λ w. AppendsSome at.before (sinks.held w) (head_bytes at.session p.journal.room)) (sym sink) (cut.front tells));
   }
-  cut_stands inputs sinks begun at p q journal items input sink (inr cut) = inr record {
+  cut_stands inputs sinks at p q journal items input sink (inr cut) = inr record {
     before = cut.before;
     edition = cut.edition;
     playing = cut.playing;

@@ -1,7 +1,6 @@
--- Why a serial cycle loses no block while no write of the media has failed: each that was captured was flushed before it.
+-- Why a serial cycle loses no block: each that was captured was taken out of its ring before it.
 use Rattle.std.proofs.Common.{◌≡◌, inl, inr, ℕ, suc, ◌<◌, ◌≤◌, List, [], ◌∷◌, length, refl, sym, ap, subst, arith, ◌∙◌, length-append}
-use Rattle.std.specs.Prelude.{Bool, true, false, ℤ, pos, reverse, slice_get, slice_index_or, Some, Result, Ok, Err}
-use Rattle.std.proofs.lemmas.Bool.{true≢false}
+use Rattle.std.specs.Prelude.{Bool, true, ℤ, pos, reverse, slice_get, slice_index_or, Some, Result, Ok, Err}
 use Rattle.std.proofs.lemmas.List.{length-map, length-reverse}
 use Rattle.std.proofs.lemmas.Option.{get_or_from_slice_get, same_Some, slice_get_within}
 use Rattle.ses_io.specs.Outside.{MediaOutside, SourceOutside, SinkOutside}
@@ -18,9 +17,6 @@ use Rattle.cycle_journal.specs.declared.note.Take.{Take}
 use Rattle.cycle_journal.specs.declared.note.Take.TheVariants.{Off, Taken, Lost}
 use Rattle.track_capture.specs.Counted.{HasCaptured}
 use Rattle.butler.specs.ButlerState.{ButlerState}
-use Rattle.butler.specs.declared.turning.Turn.{Turn}
-use Rattle.butler.specs.declared.faults.ButlerFault.{ButlerFault}
-use Rattle.butler.specs.declared.faults.ButlerFault.TheVariants.{ReadFault, WriteFault}
 use Rattle.process_cycle.specs.declared.fault.CycleFault.{CycleFault}
 use Rattle.process_cycle.specs.declared.fault.CycleFault.TheVariants.{InputFault, MasterFault}
 use Rattle.process_cycle.specs.Captured.{AreCaptured}
@@ -31,9 +27,7 @@ use Rattle.worker_pair.specs.Plays.{Cycles, Looks}
 use Rattle.worker_pair.specs.Tied.{rings_of}
 use Rattle.worker_pair.proofs.MetLemmas.{take_met}
 use Rattle.worker_pair.proofs.TurnLemmas.{others_turned}
-use Rattle.run_end.specs.declared.failures.Failures.{Failures}
 use Rattle.engine_core.specs.declared.run.Run.{Run}
-use Rattle.run_end.specs.Failures.{after_cycle, after_turn}
 use Rattle.engine_core.specs.Letters.{CyclesOn, EntersOn, GathersOn, MakesCycle, TurnsOn}
 use Rattle.engine_core.specs.Lost.{CapturesStand, IsFlushed, LosesNone, NoneIsLost, captures_of}
 use Rattle.run_end.specs.Started.{Started}
@@ -43,43 +37,32 @@ use Rattle.engine_core.proofs.EnterLemmas.{either}
 use Rattle.engine_core.proofs.ServeLemmas.{enters_none, workers_stand}
 use Rattle.engine_core.proofs.SerialCycleLemmas.{many_made}
 
--- ---- what has failed
-
--- a turn and a cycle leave a failed write failed
-write_turned : (answer : Result Turn ButlerFault) (f : Failures) → (after_turn answer f).write ≡ false → f.write ≡ false
-write_turned (Ok turn) f fine = fine
-write_turned (Err ReadFault) f fine = fine
-write_turned (Err WriteFault) f fine = absurd (true≢false fine)
-
-write_cycled : (answer : Result (Unit {0}) CycleFault) (f : Failures) → (after_cycle answer f).write ≡ f.write
-write_cycled (Ok x) f = refl
-write_cycled (Err InputFault) f = refl
-write_cycled (Err MasterFault) f = refl
-
 -- ---- the ends stand
 
 same_told : (k l : Sender TakeBlock) → k ≡ l → l ≡ record k { got = l.got }
 same_told k l e = sym e ∙ ap (λ (z : Sender TakeBlock). record k { got = z.got }) e
+
+-- so it is found full as often
+same_heads : (k l : Sender TakeBlock) → l ≡ record k { got = l.got } → l.heads ≡ k.heads
+same_heads k l told = ap (λ (z : Sender TakeBlock). z.heads) told
 
 told_twice : (k l m : Sender TakeBlock) → l ≡ record k { got = l.got } → m ≡ record l { got = m.got } → m ≡ record k { got = m.got }
 told_twice k l m one two = two ∙ ap (λ (z : Sender TakeBlock). record z { got = m.got }) one
 
 module _ {V I W : Type 0} where
   pub captures_itself : (r : Run V I W) → CapturesStand r r
-  captures_itself r = record { many = refl; each = λ t k l here there. same_told k l (same_Some k l (sym here ∙ there)); write_still = λ fine. fine }
+  captures_itself r = record { many = refl; each = λ t k l here there. same_told k l (same_Some k l (sym here ∙ there)) }
 
   pub captures_on : (a b c : Run V I W) → CapturesStand a b → CapturesStand b c → CapturesStand a c
   captures_on a b c one two = record {
     many = two.many ∙ one.many;
     each = λ t k m here there. let l = also_there (captures_of a) (captures_of b) t k (sym one.many) here in told_twice k l.0 m (one.each t k l.0 here l.1) (two.each t l.0 m l.1 there);
-    write_still = λ fine. one.write_still (two.write_still fine);
   }
 
-  captures_same : (old new : Run V I W) → captures_of new ≡ captures_of old → new.failed.write ≡ old.failed.write → CapturesStand old new
-  captures_same old new same write = record {
+  captures_same : (old new : Run V I W) → captures_of new ≡ captures_of old → CapturesStand old new
+  captures_same old new same = record {
     many = ap length same;
     each = λ t k l here there. same_told k l (same_Some k l (sym here ∙ ap (λ ks. slice_get ks t) (sym same) ∙ there));
-    write_still = λ fine. sym write ∙ fine;
   }
 
   pub captures_turned : (media : MediaOutside V) (inputs : SourceOutside I) (sinks : SinkOutside W) (on : Started V I W) (old new : Run V I W) (idle : Bool) → IsUnderWay media inputs sinks on old →
@@ -87,11 +70,10 @@ module _ {V I W : Type 0} where
   captures_turned media inputs sinks on old new idle is turned = let others = others_turned media (now_of on old) (rings_of old.pair) turned.answer turned.turns.butler is.rests.serves turned.turns.turn in record {
     many = turned.turns.met.takes.senders;
     each = take_met old.pair.process.ends new.pair.process.ends turned.turns.butler.ends new.pair.butler.ends others turned.turns.met;
-    write_still = λ fine. write_turned turned.answer old.failed (sym (ap (λ (f : Failures). f.write) turned.failed) ∙ fine);
   }
 
   pub captures_entered : (old new : Run V I W) → EntersOn old new → CapturesStand old new
-  captures_entered old new enters = captures_same old new (ap (λ (z : ProcessState I W). z.ends.takes.items) (workers_stand old new enters).0) (ap (λ (f : Failures). f.write) enters.failed)
+  captures_entered old new enters = captures_same old new (ap (λ (z : ProcessState I W). z.ends.takes.items) (workers_stand old new enters).0)
 
   -- ---- a look of a run in its cycle
 
@@ -125,7 +107,6 @@ module _ {V I W : Type 0} where
     | inl opens ↦ record {
       many = many_looked gathers.entered.pair new.pair many (gathers.looks opens);
       each = look_told gathers.entered.pair new.pair many (gathers.looks opens);
-      write_still = λ fine. ap (λ (f : Failures). f.write) (gathers.enters.failed ∙ sym gathers.failed) ∙ fine;
     }
   ])
     where
@@ -194,32 +175,32 @@ module _ {V I W : Type 0} (media : MediaOutside V) (inputs : SourceOutside I) (s
   many_now : length g.pair.butler.ends.takes.items ≡ length g.pair.process.ends.takes.items
   many_now = looked.met.ends.takes.receivers ∙ many ∙ sym (many_looked served.pair g.pair many looked)
 
-  write_before : new.failed.write ≡ false → served.failed.write ≡ false
-  write_before fine = ap (λ (f : Failures). f.write) (sym cycles.gathers.failed) ∙ sym (write_cycled makes.answer g.failed) ∙ sym (ap (λ (f : Failures). f.write) makes.failed) ∙ fine
-
   -- each ring is open, and all of it was received
   record IsEmptied (t : ℕ) (d : Sender TakeBlock) : Type 0 where
     deep : 0 < d.depth
     few : length d.sent ≤ 100000
     emptied : d.got ≡ length d.sent
 
-  emptied_at : new.failed.write ≡ false → (t : ℕ) (d : Sender TakeBlock) → slice_get (captures_of g) t ≡ Some d → IsEmptied t d
-  emptied_at fine t d hd = let k = also_there (captures_of g) (captures_of served) t d (many_looked served.pair g.pair many looked) hd in
+  -- by the ends that it had before the look
+  emptied_by : (t : ℕ) (k d : Sender TakeBlock) (f : Receiver TakeBlock) → slice_get (captures_of served) t ≡ Some k → d ≡ record k { got = length f.received } → f.received ≡ k.sent → IsEmptied t d
+  emptied_by t k d f hk told all = record {
+    deep = omega (arith, ap (λ (z : Sender TakeBlock). z.depth) told, is.depths.takes t k hk, is.rests.serves.serving.valid.formed.limits.depth.least);
+    few = omega (
+      arith,
+      ap (λ (z : Sender TakeBlock). length z.sent) told,
+      few_captured s t (entries_of served.pair.process) k (is.rests.promises.captured t k hk),
+      many_made served.pair.process,
+      is.rests.entered.room opens,
+      is.rests.asked,
+      is.rests.serves.serving.cycles,
+    );
+    emptied = ap (λ (z : Sender TakeBlock). z.got) told ∙ ap length all ∙ sym (ap (λ (z : Sender TakeBlock). length z.sent) told);
+  }
+
+  emptied_at : (t : ℕ) (d : Sender TakeBlock) → slice_get (captures_of g) t ≡ Some d → IsEmptied t d
+  emptied_at t d hd = let k = also_there (captures_of g) (captures_of served) t d (many_looked served.pair g.pair many looked) hd in
       let f = also_there (captures_of served) served.pair.butler.ends.takes.items t k.0 (sym many) k.1 in
-      let told = looked_at served.pair g.pair many looked t k.0 d f.0 k.1 f.1 hd in
-      let p = served.pair.process in record {
-        deep = omega (arith, ap (λ (z : Sender TakeBlock). z.depth) told, is.depths.takes t k.0 k.1, is.rests.serves.serving.valid.formed.limits.depth.least);
-        few = omega (
-          arith,
-          ap (λ (z : Sender TakeBlock). length z.sent) told,
-          few_captured s t (entries_of p) k.0 (is.rests.promises.captured t k.0 k.1),
-          many_made p,
-          is.rests.entered.room opens,
-          is.rests.asked,
-          is.rests.serves.serving.cycles,
-        );
-        emptied = ap (λ (z : Sender TakeBlock). z.got) told ∙ ap length (flushed (write_before fine) t k.0 f.0 k.1 f.1) ∙ sym (ap (λ (z : Sender TakeBlock). length z.sent) told);
-      }
+      emptied_by t k.0 d f.0 k.1 (looked_at served.pair g.pair many looked t k.0 d f.0 k.1 f.1 hd) (flushed t k.0 f.0 k.1 f.1)
 
   -- where it has stopped the rings are as they were
   none_stopped : {takes : List (Sender TakeBlock)} → takes ≡ captures_of g → AllMeet takes g.pair.butler.ends.takes.items (captures_of new) new.pair.butler.ends.takes.items → NoneIsLost (captures_of g) →
@@ -229,29 +210,23 @@ module _ {V I W : Type 0} (media : MediaOutside V) (inputs : SourceOutside I) (s
       ∙ was t q.0 (ap (λ ks. slice_get ks t) (sym same) ∙ q.1)
 
   -- by what the cycle answers
-  none_by : (answer : Result (Unit {0}) CycleFault) → Cycles inputs sinks (now_of on g) g.pair answer new.pair → new.failed.write ≡ false → NoneIsLost (captures_of g) → NoneIsLost (captures_of new)
-  none_by (Ok x) c fine was = λ t l there. let q = also_there (captures_of new) c.process.ends.takes.items t l c.met.ends.takes.senders there in
+  none_by : (answer : Result (Unit {0}) CycleFault) → Cycles inputs sinks (now_of on g) g.pair answer new.pair → NoneIsLost (captures_of g) → NoneIsLost (captures_of new)
+  none_by (Ok x) c was = λ t l there. let q = also_there (captures_of new) c.process.ends.takes.items t l c.met.ends.takes.senders there in
       let d = also_there c.process.ends.takes.items (captures_of g) t q.0 c.made.rings q.1 in
-      let note = also_there (captures_of g) c.made.made.notes.items t d.0 (sym c.made.notes) d.1 in let e = emptied_at fine t d.0 d.1 in
+      let note = also_there (captures_of g) c.made.made.notes.items t d.0 (sym c.made.notes) d.1 in let e = emptied_at t d.0 d.1 in
       heads_met c.process.ends.takes.items g.pair.butler.ends.takes.items (captures_of new) new.pair.butler.ends.takes.items (many_now ∙ sym c.made.rings) c.met.ends.takes t q.0 l q.1 there
       ∙ captured_so s t c.process.input.stream.form.channels c.process.input.samples note.0.take d.0 q.0 e.deep e.few e.emptied (c.made.captured t d.0 q.0 note.0 d.1 q.1 note.1) ∙ was t d.0 d.1
-  none_by (Err InputFault) c fine was = none_stopped (ap (λ (z : ProcessState I W). z.ends.takes.items) c.fault) c.met.ends.takes was
-  none_by (Err MasterFault) c fine was = none_stopped (ap (λ (z : ProcessState I W). z.ends.takes.items) c.fault) c.met.ends.takes was
+  none_by (Err InputFault) c was = none_stopped (ap (λ (z : ProcessState I W). z.ends.takes.items) c.fault) c.met.ends.takes was
+  none_by (Err MasterFault) c was = none_stopped (ap (λ (z : ProcessState I W). z.ends.takes.items) c.fault) c.met.ends.takes was
 
   -- **No block is lost.**
   pub cycle_loses_none : LosesNone served new
-  cycle_loses_none = record {
-    write_still = write_before;
-    none = λ fine was. none_by makes.answer makes.cycles fine (λ t d hd. let k = also_there (captures_of g) (captures_of served) t d (many_looked served.pair g.pair many looked) hd in
-        ap (λ (z : Sender TakeBlock). z.heads) (look_told served.pair g.pair many looked t k.0 d k.1 hd) ∙ was t k.0 k.1);
-  }
+  cycle_loses_none was = none_by makes.answer makes.cycles (λ t d hd. let k = also_there (captures_of g) (captures_of served) t d (many_looked served.pair g.pair many looked) hd in
+      same_heads k.0 d (look_told served.pair g.pair many looked t k.0 d k.1 hd) ∙ was t k.0 k.1)
 
 -- ---- the whole of a serial cycle
 
 -- what was served loses none either
 pub loses_none : {V I W : Type 0} (old served new : Run V I W) → CapturesStand old served → LosesNone served new → LosesNone old new
-loses_none old served new stand loses = record {
-  write_still = λ fine. stand.write_still (loses.write_still fine);
-  none = λ fine was. loses.none fine (λ t l there. let k = also_there (captures_of served) (captures_of old) t l stand.many there in
-      ap (λ (z : Sender TakeBlock). z.heads) (stand.each t k.0 l k.1 there) ∙ was t k.0 k.1);
-}
+loses_none old served new stand loses was = loses (λ t l there. let k = also_there (captures_of served) (captures_of old) t l stand.many there in
+    same_heads k.0 l (stand.each t k.0 l k.1 there) ∙ was t k.0 k.1)

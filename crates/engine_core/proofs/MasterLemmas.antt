@@ -6,6 +6,7 @@ use Rattle.std.proofs.lemmas.Bool.{true≢false, false≢true}
 use Rattle.std.proofs.lemmas.List.{append_assoc, reverse-reverse}
 use Rattle.ses_io.specs.Streams.{AppendsSome}
 use Rattle.ses_io.specs.Outside.{MediaOutside, SourceOutside, SinkOutside, Writes}
+use Rattle.session_model.specs.declared.edit.Edit.{Edit}
 use Rattle.engine_model.specs.Played.{samples_of}
 use Rattle.cycle_journal.specs.JournalView.{seen_entries}
 use Rattle.input_blocks.specs.State.{IsReadTo}
@@ -25,7 +26,7 @@ use Rattle.run_end.specs.Failures.{IsFaultCount, after_cycle}
 use Rattle.run_end.specs.Started.{Started}
 use Rattle.engine_core.specs.Now.{AreCounted, now_of}
 use Rattle.run_end.specs.Depths.{HaveDepths}
-use Rattle.run_end.specs.CutOff.{HoldsAll, IsCutAtHead, IsCutAtEnd}
+use Rattle.process_cycle.specs.CutOff.{HoldsAll, IsCutAtHead, IsCutAtEnd}
 use Rattle.engine_core.specs.UnderWay.{InputIsShort, IsFresh, IsInputOf, IsUnderWay, IsWritten}
 use Rattle.run_end.proofs.DepthLemmas.{depths_played}
 use Rattle.run_end.proofs.CountedLemmas.{counted_still, counted_none, counted_ok, counted_err}
@@ -87,9 +88,9 @@ module _ {V I W : Type 0} (media : MediaOutside V) (inputs : SourceOutside I) (s
   hears_begun = subst (λ (z : Pair V I W). HearsInput inputs (at_first on.begun) z) (sym same) fresh.runs.playing.hears
 
   -- a front of the header was written
-  cut_at_head : (sinks.tells → AppendsSome (sinks.held p.process.master.sink) (sinks.held q.process.master.sink) (head_bytes on.begun.session p.process.journal.room)) →
-      IsCutAtHead inputs sinks on.begun q.process
-  cut_at_head front = record {
+  cut_at_head : (edits : List Edit) → (sinks.tells → AppendsSome (sinks.held p.process.master.sink) (sinks.held q.process.master.sink) (head_bytes on.begun.session p.process.journal.room)) →
+      IsCutAtHead inputs sinks (record { session = on.begun.session; edits = edits; start = on.begun.start; before = on.begun.before }) q.process
+  cut_at_head edits front = record {
     none = ap (λ (z : Pair V I W). z.process.journal.items) same ∙ fresh.none;
     read = subst (λ (z : Pair V I W). IsReadTo inputs (record { start = on.begun.start; blocks = 0 }) z.process.input) (sym same)
         (subst (λ n. IsReadTo inputs (record { start = on.begun.start; blocks = n }) p.process.input) (ap length fresh.none) fresh.runs.playing.read);
@@ -142,7 +143,7 @@ module _ {V I W : Type 0} (media : MediaOutside V) (inputs : SourceOutside I) (s
     hears = hears_begun;
     input = input_begun;
     mastered = λ fine. absurd (true≢false fine);
-    cut = λ broken. inl (cut_at_head writes.front);
+    cut = λ broken. inl (cut_at_head _ writes.front);
     input_short = λ broken. absurd (false≢true broken);
     depths = depths_begun;
   }

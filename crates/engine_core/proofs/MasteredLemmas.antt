@@ -23,7 +23,7 @@ use Rattle.worker_pair.specs.Begun.{At, playing_at}
 use Rattle.worker_pair.specs.Runs.{Rests}
 use Rattle.worker_pair.specs.Tied.{rings_of}
 use Rattle.worker_pair.proofs.LongerLemmas.{quit_longer}
-use Rattle.run_end.specs.CutOff.{IsCutAtEnd, IsCutAtHead, IsCutInCycle}
+use Rattle.process_cycle.specs.CutOff.{IsCutAtEnd, IsCutAtHead, IsCutInCycle}
 use Rattle.run_end.specs.Failures.{has_stopped}
 use Rattle.run_end.specs.Mastered.{IsCutOff}
 use Rattle.run_end.proofs.MasteredLemmas as end
@@ -155,7 +155,7 @@ module _ {M I C W O : Type 0} (media : MediaOutside M) (inputs : SourceOutside I
       CutOff = IsCutOff x.ended.failed.input at.begun.before (sinks.held p.master.sink) s (at.played ++ since) (samples_of (source_sound at.begun.files written.pair.butler.sources.opened) s (at.played ++ since))
           p.journal.room (seen_entries p.journal.items)
 
-      by_cut : IsCutAtHead inputs sinks on.opening.started.begun p ⊎ IsCutInCycle inputs sinks (playing_at at) p → CutOff
+      by_cut : IsCutAtHead inputs sinks (playing_at at) p ⊎ IsCutInCycle inputs sinks (playing_at at) p → CutOff
       by_cut = end.cut_before media inputs sinks at (rings_of written.pair) rests.serves p refl since whole tells told x.ended.failed.input
 
       -- the write of the end failed, and none before it: then all cycles were made
@@ -167,11 +167,11 @@ module _ {M I C W O : Type 0} (media : MediaOutside M) (inputs : SourceOutside I
 
       -- one failed before the end was to be written, or that of the end did
       by_before : (b : Bool) → run.failed.master ≡ b → CutOff
-      by_before true failed = by_cut (subst (λ (r : Run M I W). IsCutAtHead inputs sinks on.opening.started.begun r.pair.process ⊎ IsCutInCycle inputs sinks (playing_at (now_of on.opening.started r)) r.pair.process)
+      by_before true failed = by_cut (subst (λ (r : Run M I W). IsCutAtHead inputs sinks (playing_at (now_of on.opening.started r)) r.pair.process ⊎ IsCutInCycle inputs sinks (playing_at (now_of on.opening.started r)) r.pair.process)
           (sym (x.written.is_written.stays failed)) (x.going.may.under_way.cut failed))
       by_before false fine = by (x.written.is_written.cut (sym x.written.master_failed ∙ bad))
         where
-          by : (IsCutAtHead inputs sinks on.opening.started.begun p ⊎ IsCutInCycle inputs sinks (playing_at at) p) ⊎ IsCutAtEnd sinks (playing_at at) p → CutOff
+          by : (IsCutAtHead inputs sinks (playing_at at) p ⊎ IsCutInCycle inputs sinks (playing_at at) p) ⊎ IsCutAtEnd sinks (playing_at at) p → CutOff
           by (inl c) = by_cut c
           by (inr c) = by_end fine c
 

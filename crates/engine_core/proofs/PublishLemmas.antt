@@ -12,7 +12,7 @@ use Rattle.worker_pair.proofs.NowLemmas.{now_rests, now_runs}
 use Rattle.engine_core.specs.declared.run.Run.{Run}
 use Rattle.run_end.specs.Started.{Started}
 use Rattle.engine_core.specs.Now.{now_of}
-use Rattle.run_end.specs.CutOff.{IsCutAtHead, IsCutInCycle}
+use Rattle.process_cycle.specs.CutOff.{IsCutAtHead, IsCutInCycle}
 use Rattle.engine_core.specs.UnderWay.{IsUnderWay}
 use Rattle.engine_core.proofs.KeepLemmas.{counts_stand, short_stands}
 
@@ -33,7 +33,7 @@ module _ {V I W : Type 0} (media : MediaOutside V) (inputs : SourceOutside I) (s
     opened = is.opened;
     hears = is.hears;
     mastered = λ fine. subst (λ l. IsMastered sinks (playing l) r.pair.process) rests.entered.played (is.mastered fine);
-    cut = λ bad. subst (λ l. IsCutAtHead inputs sinks on.begun r.pair.process ⊎ IsCutInCycle inputs sinks (playing l) r.pair.process) rests.entered.played (is.cut bad);
+    cut = λ bad. subst (λ l. IsCutAtHead inputs sinks (playing l) r.pair.process ⊎ IsCutInCycle inputs sinks (playing l) r.pair.process) rests.entered.played (is.cut bad);
     input = is.input;
     input_short = λ lost. short_stands inputs on r edited refl refl (is.input_short lost);
     depths = is.depths;

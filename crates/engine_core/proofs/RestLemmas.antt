@@ -107,6 +107,23 @@ module _ {V I C W O : Type 0} (media : MediaOutside V) (inputs : SourceOutside I
 pub is_finished_then : {V I C W O : Type 0} (e : Engine V I C W O) → is_finished e ≡ true → IsFinished e
 is_finished_then e finished = let both = and_parts (is_ended e.control.standing) (is_last_made e.run) finished in record { ended = both.0; last_made = both.1 }
 
+-- ---- whether a cycle is next
+
+-- No line is due and the rest isn't finished, so that a cycle may be made.
+pub record CycleIsNext {V I C W O : Type 0} (e : Engine V I C W O) : Type 0 where
+  pub not_due : is_line_due (shows e.run) e.control.standing ≡ false
+  pub unfinished : is_finished e ≡ false
+  pub may : MayPlay e.run
+
+-- by what was asked
+pub cycle_is_next_by : {V I C W O : Type 0} (e : Engine V I C W O) (due over : Bool) → due ≡ is_line_due (shows e.run) e.control.standing → over ≡ is_finished e → due ≡ false → over ≡ false →
+    (is_ended e.control.standing ≡ false → has_quit (edits_of e.run) (length (edits_of e.run)) ≡ false) → CycleIsNext e
+cycle_is_next_by e due over due_is over_is none going unquit = record {
+  not_due = sym due_is ∙ none;
+  unfinished = sym over_is ∙ going;
+  may = may_play e.run e.control.standing unquit (sym due_is ∙ none) (sym over_is ∙ going);
+}
+
 -- ---- a run in its rest
 
 module _ {V I C W O : Type 0} (media : MediaOutside V) (inputs : SourceOutside I) (source : SourceOutside C) (sinks : SinkOutside W) (sink : SinkOutside O) (opening : Opening V I C W O) (letters : List Letter) where

@@ -31,7 +31,7 @@ use Rattle.engine_core.specs.UnderWay.{InputIsShort}
 use Rattle.engine_core.proofs.InputLemmas.{due_is, left_is}
 use Rattle.engine_core.specs.Serially.{GoesSerially}
 use Rattle.run_end.specs.Mastered.{InputGave, MakesItsCycles, MasterIsCutOff, MasterIsWhole, WritesTheMaster, after_blocks, bytes_due_after}
-use Rattle.run_end.specs.CutOff.{IsCutAtHead, IsCutInCycle}
+use Rattle.process_cycle.specs.CutOff.{IsCutAtHead, IsCutInCycle}
 use Rattle.engine_core.specs.Played.{IsPlayed}
 use Rattle.engine_core.specs.Now.{now_of}
 use Rattle.worker_pair.specs.Begun.{playing_at}
@@ -160,7 +160,7 @@ module _ {M I C W O : Type 0} (media : MediaOutside M) (inputs : SourceOutside I
         (x.going.may.under_way.runs (or_from x.engine.run.failed.input x.engine.run.failed.master (sym x.written.input_failed ∙ fine) e)).playing.read)
     cut_by fine true e = by (x.going.may.under_way.cut e)
       where
-        by : IsCutAtHead inputs sinks on.opening.started.begun x.engine.run.pair.process ⊎ IsCutInCycle inputs sinks (playing_at (now_of on.opening.started x.engine.run)) x.engine.run.pair.process →
+        by : IsCutAtHead inputs sinks (playing_at (now_of on.opening.started x.engine.run)) x.engine.run.pair.process ⊎ IsCutInCycle inputs sinks (playing_at (now_of on.opening.started x.engine.run)) x.engine.run.pair.process →
             IsReadTo inputs (so_far made) input ⊎ IsReadTo inputs (so_far (suc made)) input
         by (inl c) = inl (subst (λ n. IsReadTo inputs (so_far n) input) (sym (ap length c.none) ∙ many) c.read)
         by (inr c) = inr (subst (λ n. IsReadTo inputs (so_far (suc n)) input) many c.read)

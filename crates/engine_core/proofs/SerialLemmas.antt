@@ -135,7 +135,7 @@ module _ {V I W : Type 0} (s : Session) (cycles : ℕ) (lines : List Line) (repl
     unquit = plays.unquit;
     fed = λ fine. let before = was.fed (plain.read_still fine) in plain.fed fine was.shut before.0 before.1;
     plays = λ fine. subst (λ (l : List Edit). PlayAsPlain s l (made_of new)) (sym edits) (plays_now fine went.grows.entries_are);
-    none_lost = λ fine. loses.none fine (was.none_lost (loses.write_still fine));
+    none_lost = loses was.none_lost;
     paced = elim went.grows.entries_are [
       | inl same ↦ it_is_paced_still s cycles (is_played_out old) (is_played_out new) lines (standing_by (shown_core s (edits_of old) (made_of old)) standing replies) (shown_core s (edits_of new) (made_of new))
           edits same went.grows.stays_over was.paced

@@ -82,11 +82,11 @@ module _ {M I C W O : Type 0} (media : MediaOutside M) (inputs : SourceOutside I
   some_capture : (t : ℕ) → t < length s.tracks.items → length run.pair.process.ends.takes.items ≡ length s.tracks.items
   some_capture t within = sym x.going.may.under_way.rests.serves.others.takes.count ∙ x.going.may.under_way.rests.serves.serving.takes
 
-  -- **Unless a write of the media has failed no block is lost.**
-  pub takes_all : x.ended.failed.write ≡ false → TakesAll s journal
-  takes_all fine t within = let d = item_at run.pair.process.ends.takes.items t (subst (λ n. t < n) (sym (some_capture t within)) within) in
+  -- **No block is lost.**
+  pub takes_all : TakesAll s journal
+  takes_all t within = let d = item_at run.pair.process.ends.takes.items t (subst (λ n. t < n) (sym (some_capture t within)) within) in
       ap (losses t) (sym journal_is) ∙ none_named (losses t (reverse (made_of run))) (sym (x.going.may.under_way.rests.promises.captured t d.0 d.1).heads
-      ∙ keeps.none_lost (before_by run.failed.write x.ended.failed.write x.counts.write_still fine) t d.0 d.1)
+      ∙ keeps.none_lost t d.0 d.1)
 
   -- ---- playback
 

@@ -24,7 +24,7 @@ use Rattle.run_end.specs.Failures.{IsFaultCount, after_turn, has_stopped, nothin
 use Rattle.run_end.specs.Started.{Started}
 use Rattle.engine_core.specs.Now.{AreCounted, now_of}
 use Rattle.engine_core.specs.Letters.{TurnIsB}
-use Rattle.run_end.specs.CutOff.{IsCutAtHead, IsCutInCycle}
+use Rattle.process_cycle.specs.CutOff.{IsCutAtHead, IsCutInCycle}
 use Rattle.engine_core.specs.UnderWay.{IsInputOf, IsUnderWay}
 use Rattle.run_end.proofs.DepthLemmas.{depths_met}
 use Rattle.run_end.proofs.CountedLemmas.{counted_still}
@@ -110,8 +110,8 @@ module _ {V I W : Type 0} (media : MediaOutside V) (inputs : SourceOutside I) (s
     opened = ap (λ (b : ButlerState V). b.sources.opened) butler_is ∙ turns.turn.rest.sources ∙ under.opened;
     hears = hears under.hears;
     mastered = λ fine. subst (λ (z : Playing). IsMastered sinks z new.pair.process) (sym played_same) (mastered (under.mastered (sym master_failed ∙ fine)));
-    cut = λ broken. subst (λ (z : Playing). IsCutAtHead inputs sinks on.begun new.pair.process ⊎ IsCutInCycle inputs sinks z new.pair.process) (sym played_same)
-        (cut_stands inputs sinks on.begun (playing_at (now_of on old)) old.pair.process new.pair.process (ap (λ (z : Pair V I W). z.process.journal) only) items_same
+    cut = λ broken. subst (λ (z : Playing). IsCutAtHead inputs sinks z new.pair.process ⊎ IsCutInCycle inputs sinks z new.pair.process) (sym played_same)
+        (cut_stands inputs sinks (playing_at (now_of on old)) old.pair.process new.pair.process (ap (λ (z : Pair V I W). z.process.journal) only) items_same
         (ap (λ (z : Pair V I W). z.process.input) only) (ap (λ (z : Pair V I W). z.process.master.sink) only) (under.cut (sym master_failed ∙ broken)));
     input = subst (IsInputOf on) (sym (ap (λ (z : Pair V I W). z.process.input) only)) under.input;
     input_short = λ broken. short_stands inputs on old new (ap (λ (z : Pair V I W). z.process.journal) only) (ap (λ (z : Pair V I W). z.process.input) only) (under.input_short (sym input_failed ∙ broken));

@@ -36,7 +36,7 @@ module _ {V I W : Type 0} where
     -- unless a read of the media has failed all that was sent was received, and each entry plays as the plain one
     pub fed : r.failed.read ≡ false → IsFed s r × AllHeard r
     pub plays : r.failed.read ≡ false → PlayAsPlain s (edits_of r) (made_of r)
-    -- unless a write of the media has failed no block of a take was lost
-    pub none_lost : r.failed.write ≡ false → NoneIsLost (captures_of r)
+    -- no block of a take was lost
+    pub none_lost : NoneIsLost (captures_of r)
     -- entries and replies are by the plain walk over the lines
     pub paced : HasPaced s cycles (is_played_out r) lines (standing_by (shown_core s (edits_of r) (made_of r)) standing replies)

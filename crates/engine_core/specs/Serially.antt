@@ -11,7 +11,7 @@ use Rattle.run_end.specs.Finished.{journal_of}
 abbrev pub TakesAll : Session → List Entry → Type 0
 TakesAll s journal = (t : ℕ) → t < length s.tracks.items → losses t journal ≡ []
 
--- **Unless a write of the media has failed no block of a take is lost, and unless a read has failed each entry plays as the plain one.**
+-- **No block of a take is lost, and unless a read of the media has failed each entry plays as the plain one.**
 pub record GoesSerially {M I C W O : Type 0} (s : Session) (f : Finished M I C W O) : Type 0 where
-  pub takes_all : f.faults.write ≡ false → TakesAll s (journal_of f)
+  pub takes_all : TakesAll s (journal_of f)
   pub plays : f.faults.read ≡ false → PlayAsPlain s f.edits.items (reverse (journal_of f))

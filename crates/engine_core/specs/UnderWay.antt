@@ -14,7 +14,7 @@ use Rattle.run_end.specs.Failures.{has_stopped, after_cycle}
 use Rattle.run_end.specs.Started.{Started}
 use Rattle.engine_core.specs.Now.{now_of, AreCounted}
 use Rattle.run_end.specs.Depths.{HaveDepths}
-use Rattle.run_end.specs.CutOff.{IsCutAtHead, IsCutInCycle, IsCutAtEnd, HoldsAll}
+use Rattle.process_cycle.specs.CutOff.{IsCutAtHead, IsCutInCycle, IsCutAtEnd, HoldsAll}
 
 module _ {V I W : Type 0} where
   -- The workers did nothing yet, and have what the run began with.
@@ -60,7 +60,7 @@ module _ {V I W : Type 0} where
     pub hears : HearsInput inputs (now_of on r) r.pair
     -- the master holds its header and a block for each entry, or it was cut off: in its header, or in a cycle by the edits of this run
     pub mastered : r.failed.master ≡ false → IsMastered sinks (playing_at (now_of on r)) r.pair.process
-    pub cut : r.failed.master ≡ true → IsCutAtHead inputs sinks on.begun r.pair.process ⊎ IsCutInCycle inputs sinks (playing_at (now_of on r)) r.pair.process
+    pub cut : r.failed.master ≡ true → IsCutAtHead inputs sinks (playing_at (now_of on r)) r.pair.process ⊎ IsCutInCycle inputs sinks (playing_at (now_of on r)) r.pair.process
     -- its input is that of the run, and gave the blocks of the entries where a read of it failed
     pub input : IsInputOf on r.pair.process.input
     pub input_short : r.failed.input ≡ true → InputIsShort inputs on r
@@ -89,4 +89,4 @@ module _ {V I W : Type 0} where
     pub ends : old.failed.master ≡ false → EndsMaster sinks on old new
     -- it holds header, blocks and end, or it was cut off
     pub whole : new.failed.master ≡ false → sinks.tells → HoldsAll sinks (playing_at (now_of on new)) new.pair.process
-    pub cut : new.failed.master ≡ true → (IsCutAtHead inputs sinks on.begun new.pair.process ⊎ IsCutInCycle inputs sinks (playing_at (now_of on new)) new.pair.process) ⊎ IsCutAtEnd sinks (playing_at (now_of on new)) new.pair.process
+    pub cut : new.failed.master ≡ true → (IsCutAtHead inputs sinks (playing_at (now_of on new)) new.pair.process ⊎ IsCutInCycle inputs sinks (playing_at (now_of on new)) new.pair.process) ⊎ IsCutAtEnd sinks (playing_at (now_of on new)) new.pair.process

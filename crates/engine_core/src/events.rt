@@ -30,17 +30,15 @@ impl<M: Media, I: Source, C: Source, W: Sink, O: Sink> Engine<M, I, C, W, O> {
     }
 
     /// These events, in their order.
-    pub fn events(self, events: &[Event]) -> Engine<M, I, C, W, O>
+    pub fn events(&mut self, events: &[Event])
         ghost on: { Course M I C W O }
-        requires { IsGoing M.outside I.outside C.outside W.outside O.outside (given on) self }
+        requires { IsGoing M.outside I.outside C.outside W.outside O.outside (given on) self.old }
         ensures { IsGoing M.outside I.outside C.outside W.outside O.outside
-            (given (and_given events.now on)) result }
+            (given (and_given events.now on)) self.new }
     {
-        let mut engine = self;
         for at in 0..events.len() {
             let event = events[at];
-            engine.event(event);
+            self.event(event);
         }
-        engine
     }
 }

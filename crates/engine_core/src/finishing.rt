@@ -15,7 +15,7 @@ use run_end::{RunEnd, RunLists, leave};
 use ses_io::{Media, Sink, Source};
 
 /// Ends a run, whatever has failed in it: silence is written for the cycles that weren't made, the process ends, the butler takes
-/// its last turns, and the takes are made whole unless a write of the media has failed. `records` says whether tracks could be
+/// its last turns, and the takes are made whole, but those of which a write has failed. `records` says whether tracks could be
 /// recorded. It takes no memory.
 pub fn finish<M: Media, I: Source, W: Sink>(
     run: Run<M, I, W>,
@@ -35,7 +35,8 @@ pub fn finish<M: Media, I: Source, W: Sink>(
         on.begun.session result.edits.items result.rings.items }
     ensures as_machine { EndsAsMachine on.begun.session run result }
 {
-    let run = run.end();
+    let mut run = run;
+    run.end();
     let Run { pair, failed } = run;
     let (ending, stopped) = pair.close();
     leave(ending, stopped, failed, lists, records)

@@ -5,19 +5,11 @@ ghost use Rattle.worker_pair.specs.Begun.{playing_at};
 ghost use Rattle.run_end.specs.Started.{Started};
 ghost use Rattle.engine_core.specs.Now.{now_of};
 ghost use Rattle.engine_core.specs.UnderWay.{IsUnderWay};
-ghost use Rattle.worker_pair.specs.Steps.{is_idle_answer};
 ghost use Rattle.engine_core.specs.Letters.{TurnsOn, EntersOn, GathersOn, CyclesOn, TurnIsB, EnteringIsE, GatheringIsG, CycleIsP};
 
 use crate::run::Run;
-use butler::{ButlerFault, Turn};
+use run_end::is_idle;
 use ses_io::{Media, Sink, Source};
-
-// Whether a turn was Idle.
-fn is_idle(answer: &Result<Turn, ButlerFault>) -> bool
-    ensures { result ≡ is_idle_answer answer.now }
-{
-    matches!(answer, Ok(Turn::Idle))
-}
 
 impl<M: Media, I: Source, W: Sink> Run<M, I, W> {
     /// The letter B: a turn of the butler of one item, in the newest edition. Whether it was Idle.

@@ -27,19 +27,15 @@ impl<M: Media, I: Source, W: Sink> Run<M, I, W> {
 
     /// A run ends: silence is written for the cycles that weren't made, and the pad byte, unless a
     /// write of the master has failed.
-    pub fn end(self) -> Run<M, I, W>
+    pub fn end(&mut self)
         ghost on: { Started M I W }
-        requires { IsUnderWay M.outside I.outside W.outside on self }
-        ensures written { IsWritten M.outside I.outside W.outside on self result }
+        requires { IsUnderWay M.outside I.outside W.outside on self.old }
+        ensures written { IsWritten M.outside I.outside W.outside on self.old self.new }
     {
         if self.failed.master {
-            return self;
+            return;
         }
-        let Run { mut pair, failed } = self;
-        let answer = pair.silence();
-        Run {
-            pair,
-            failed: failed.after_cycle(&answer),
-        }
+        let answer = self.pair.silence();
+        self.failed = self.failed.after_cycle(&answer);
     }
 }

@@ -42,22 +42,18 @@ fn is_finished<M: Media, I: Source, C: Source, W: Sink, O: Sink>(
 /// The serial rest of a run whose letters are over, but for the butler's last turns. While something
 /// is awaited cycles are made, until it is over; then the next line is carried out. Once control has
 /// ended cycles are made until no further one can run; after a quit none is. It takes no memory.
-pub fn play_on<M: Media, I: Source, C: Source, W: Sink, O: Sink>(
-    engine: Engine<M, I, C, W, O>,
-) -> Engine<M, I, C, W, O>
+pub fn play_on<M: Media, I: Source, C: Source, W: Sink, O: Sink>(engine: &mut Engine<M, I, C, W, O>)
     ghost on: { Course M I C W O }
-    requires { IsGoing M.outside I.outside C.outside W.outside O.outside (given on) engine }
+    requires { IsGoing M.outside I.outside C.outside W.outside O.outside (given on) engine.old }
     ensures going { IsGoing M.outside I.outside C.outside W.outside O.outside
-        (in_rest Between on) result }
-    ensures finished { IsFinished result }
+        (in_rest Between on) engine.new }
+    ensures finished { IsFinished engine.new }
 {
-    let mut engine = engine;
-    'playing: while !is_finished(&engine) {
-        if is_line_due(&engine) {
+    'playing: while !is_finished(engine) {
+        if is_line_due(engine) {
             engine.carry();
         } else {
             serial_cycle(&mut engine.run);
         }
     }
-    engine
 }

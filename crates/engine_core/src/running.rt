@@ -1,10 +1,11 @@
 //! A run from its first event to its end.
-ghost use Rattle.std.specs.Prelude.{◌≡◌, IfOk, IfErr};
+ghost use Rattle.std.specs.Prelude.{◌≡◌, map, IfOk, IfErr};
 ghost use Rattle.run_end.specs.Beginning.{MayRun, started_of};
 ghost use Rattle.run_end.specs.Finished.{FaultsAreCounted, LeavesRings, SendsGenuine, run_end_of};
 ghost use Rattle.run_end.specs.Mastered.{InputGave, MakesItsCycles, WritesTheMaster};
 ghost use Rattle.run_end.specs.Takes.{LeavesTakes};
-ghost use Rattle.engine_core.specs.Beginning.{course_of};
+ghost use Rattle.run_letters.specs.Events.{letter_of};
+ghost use Rattle.engine_core.specs.Beginning.{HasBegun, course_of};
 ghost use Rattle.engine_core.specs.Events.{Course};
 ghost use Rattle.engine_core.specs.Lines.{GoesByItsLines};
 ghost use Rattle.engine_core.specs.Played.{IsPlayed, finished_of};
@@ -15,7 +16,7 @@ use crate::finishing::finish;
 use crate::rest::play_on;
 use control_desk::ControlParts;
 use master_blocks::the_master_is_its_blocks;
-use run_end::RunEnd;
+use run_end::{RunEnd, RunLists};
 use run_letters::Event;
 use run_world::{Faults, Finished, Opened};
 use ses_io::{Media, Sink, Source, World};
@@ -54,6 +55,30 @@ fn finished<M, I, C, W, O>(
     }
 }
 
+// Plays a run that has begun to its end.
+fn played<M: Media, I: Source, C: Source, W: Sink, O: Sink>(
+    engine: Engine<M, I, C, W, O>,
+    lists: RunLists,
+    events: &[Event],
+    records: bool,
+) -> Finished<M, I, C, W, O>
+    ghost on: { Course M I C W O }
+    requires begun { HasBegun M.outside I.outside C.outside W.outside O.outside on.opening engine
+        lists }
+    requires letters { on.letters ≡ map letter_of events.now }
+    requires records { records ≡ on.opening.started.begun.records }
+    ensures { IsPlayed M.outside I.outside C.outside W.outside O.outside on result }
+{
+    let mut engine = engine;
+    engine.events(events);
+    play_on(&mut engine);
+    let Engine { run, control } = engine;
+    let ended = finish(run, lists, records);
+    // it has no more entries than it has room for
+    let _made = ended.journal.entries();
+    finished(ended, control.parts())
+}
+
 // Begins a run, and plays it to its end.
 fn play<M: Media, I: Source, C: Source, W: Sink, O: Sink>(
     alloc: Global,
@@ -67,15 +92,10 @@ fn play<M: Media, I: Source, C: Source, W: Sink, O: Sink>(
     ensures back { IfErr result (λ w. w ≡ o.world) }
 {
     let records = o.script.is_none();
-    let (engine, lists) = match begin(alloc, o) {
-        Ok(begun) => begun,
-        Err(world) => return Err(world),
-    };
-    let Engine { run, control } = play_on(engine.events(events));
-    let ended = finish(run, lists, records);
-    // it has no more entries than it has room for
-    let _made = ended.journal.entries();
-    Ok(finished(ended, control.parts()))
+    match begin(alloc, o) {
+        Ok((engine, lists)) => Ok(played(engine, lists, events, records)),
+        Err(world) => Err(world),
+    }
 }
 
 /// Runs the events on one thread, and then the serial rest: what control awaits, its lines in order,

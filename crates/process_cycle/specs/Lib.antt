@@ -10,4 +10,5 @@ pub mod Cycles
 pub mod Heard
 pub mod Making
 pub mod Noting
+pub mod CutOff
 pub mod Laws

@@ -36,7 +36,7 @@ use Rattle.process_cycle.specs.Cycles.{next_bytes, next_state}
 use Rattle.process_cycle.specs.ProcessState.{Playing, ProcessState, entries_of, items_of, kinds_of}
 use Rattle.process_cycle.specs.Promised.{AllOfTrack}
 use Rattle.process_cycle.proofs.BlockLemmas.{block_made}
-use Rattle.run_end.specs.CutOff.{IsCutInCycle}
+use Rattle.process_cycle.specs.CutOff.{IsCutInCycle}
 use Rattle.run_end.specs.Mastered.{HasNextInPart, bytes_made}
 
 -- ---- what a cycle would take

@@ -1,7 +1,6 @@
 -- What a run leaves from the end of its process on: each clause, by what the last turns and the takes did.
 use Rattle.std.proofs.Common.{◌≡◌, ◌<◌, List, length, refl, sym, ap, subst, ◌∙◌}
 use Rattle.std.specs.Prelude.{Bool, true, false, map, reverse}
-use Rattle.std.proofs.lemmas.Bool.{true≢false}
 use Rattle.ses_io.specs.FixedList.{Listed}
 use Rattle.ses_io.specs.Outside.{MediaOutside, SourceOutside}
 use Rattle.session_model.specs.declared.session.Session.{Session}
@@ -153,13 +152,6 @@ module _ {V I W : Type 0} (media : MediaOutside V) (inputs : SourceOutside I) (o
         by true so = (parted.finishes so).stays before
         by false so = (parted.quiet so).1 ∙ before
 
-    write_back : e.failed.write ≡ false → c.failed.write ≡ false
-    write_back fine = by c.failed.write refl
-      where
-        by : (b : Bool) → c.failed.write ≡ b → c.failed.write ≡ false
-        by true was = absurd (true≢false (sym (write_on was) ∙ fine))
-        by false was = was
-
     reads_counted : IsFaultCount (media.read_faults on.media) (media.read_faults e.media) e.failed.read
     reads_counted = subst (IsFaultCount (media.read_faults on.media) (media.read_faults e.media)) (sym read_same)
         (counted_still (media.read_faults on.media) (media.read_faults c.ending.butler.media) (media.read_faults e.media) c.failed.read (by records refl) is.ended.last.reads)
@@ -201,7 +193,7 @@ module _ {V I W : Type 0} (media : MediaOutside V) (inputs : SourceOutside I) (o
     genuine tells = subst (λ (es : List Edit). AllGenuine (source_sound on.begun.files on.opened) s es e.rings.items) (sym parted.edits) (pass.genuine media inputs on c is e.rings.items parted.rings parted.whole tells)
 
     spent : AreSpent e.failed e.rings.items
-    spent = pass.spent media inputs on c is e.rings.items parted.rings parted.whole e.failed read_same write_back
+    spent = pass.spent media inputs on c is e.rings.items parted.rings parted.whole e.failed read_same
 
     acks : IsToldOn s e.edits.items (seen_entries e.journal.items) e.acks
     acks = subst (λ (j : Listed made.Entry). IsToldOn s e.edits.items (seen_entries j.items) e.acks) (sym parted.journal)

@@ -23,7 +23,7 @@ use Rattle.process_cycle.specs.Promised.{AllOfTrack}
 use Rattle.worker_pair.specs.declared.ending.Ending.{Ending}
 use Rattle.worker_pair.specs.Begun.{At, playing_at}
 use Rattle.worker_pair.specs.Runs.{Serves}
-use Rattle.run_end.specs.CutOff.{HoldsAll, IsCutAtEnd, IsCutAtHead, IsCutInCycle}
+use Rattle.process_cycle.specs.CutOff.{HoldsAll, IsCutAtEnd, IsCutAtHead, IsCutInCycle}
 use Rattle.run_end.specs.Mastered.{IsCutOff, bytes_made}
 use Rattle.run_end.proofs.CutLemmas.{holds_made, next_in_part}
 use Rattle.run_end.proofs.ReceivedLemmas.{of_tracks, ordered}
@@ -75,7 +75,7 @@ module _ {V I W : Type 0} (media : MediaOutside V) (inputs : SourceOutside I) (s
   CutOff input = IsCutOff input at.begun.before (sinks.held p.master.sink) s edits samples p.journal.room journal
 
   -- **Where a write of the header failed, or one of a cycle, it is cut off.**
-  pub cut_before : (input : Bool) → IsCutAtHead inputs sinks at.begun p ⊎ IsCutInCycle inputs sinks (playing_at at) p → CutOff input
+  pub cut_before : (input : Bool) → IsCutAtHead inputs sinks (playing_at at) p ⊎ IsCutInCycle inputs sinks (playing_at at) p → CutOff input
   cut_before input (inl c) = inl (ap seen_entries c.none, c.front told)
   cut_before input (inr c) = inr (inl (next_in_part inputs sinks (playing_at at) more samples p c all_received all_ordered at.begun.before
       (holds_made inputs sinks (playing_at at) more samples told c.before before (c.mastered told more heard before)) told))

@@ -1,6 +1,6 @@
 -- What went through the rings that a closed run leaves, and what its journal says of them.
 use Rattle.std.proofs.Common.{◌≡◌, ℕ, List, ◌++◌, length, sym, ap, subst, ◌∙◌, arith}
-use Rattle.std.specs.Prelude.{true, false, map, reverse, take, slice_get, Some, All}
+use Rattle.std.specs.Prelude.{true, map, reverse, take, slice_get, Some, All}
 use Rattle.std.proofs.lemmas.List.{map-append, reverse-reverse, take_all}
 use mathlib.Core.List.{IsPrefix}
 use Rattle.engine_model.specs.Takes.{Input}
@@ -158,11 +158,11 @@ module _ {V I W : Type 0} (media : MediaOutside V) (inputs : SourceOutside I) (o
             (subst (λ l. AreGenuine (source_sound on.begun.files l) s (take e.butler.entered edits) e.butler.ends.sends.items) is.ended.last.opened (serves.true_to tells).sent)
 
     -- how they are left
-    pub spent : (failed : Failures) → failed.read ≡ c.failed.read → (failed.write ≡ false → c.failed.write ≡ false) → AreSpent failed rings
-    spent failed read write t r here = let j = at t r here in record {
+    pub spent : (failed : Failures) → failed.read ≡ c.failed.read → AreSpent failed rings
+    spent failed read t r here = let j = at t r here in record {
       items = ap (λ (z : TrackRings). z.plays.closed) j.is ∙ (is_sent t j.send j.send_at).closed_so ∙ is.ended.last.butler_reads ∙ sym read;
       blocks = ap (λ (z : TrackRings). z.takes.closed) j.is ∙ is.ended.shut.takes t j.capture j.capture_at;
-      received = λ fine. subst (λ (z : TrackRings). z.takes.received ≡ z.takes.sent) (sym j.is) (is.received t j.capture j.flush j.capture_at j.flush_at);
+      received = subst (λ (z : TrackRings). z.takes.received ≡ z.takes.sent) (sym j.is) (is.received t j.capture j.flush j.capture_at j.flush_at);
     }
 
   -- ---- acknowledgements

@@ -8,7 +8,7 @@ use Rattle.audio_source.specs.Opened.{IsListed}
 use Rattle.input_blocks.specs.Rest.{stream_told}
 use Rattle.run_world.specs.declared.opened.Opened.{Opened}
 use Rattle.worker_pair.specs.Begun.{begun_with}
-use Rattle.worker_pair.specs.Takes.{MayRecord}
+use Rattle.butler.specs.Takes.{MayRecord}
 use Rattle.run_end.specs.Started.{Started}
 
 module _ {M I C W O : Type 0} where

@@ -1,4 +1,5 @@
--- How many boxes the rings have that the process puts into.
+-- How many boxes the rings have that the process sends takes and acknowledgements to control by. That of the ring to the butler is
+-- among what a process keeps.
 use Rattle.std.specs.Prelude.{◌≡◌, ℕ, slice_get, Some}
 use Rattle.session_model.specs.declared.session.Session.{Session}
 use Rattle.disk_ring.specs.Sender.{Sender}

@@ -2,7 +2,6 @@
 pub mod Failures
 pub mod Started
 pub mod Depths
-pub mod CutOff
 pub mod LastTurns
 pub mod Lists
 pub mod AtRest

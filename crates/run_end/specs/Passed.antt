@@ -1,5 +1,5 @@
 -- What the rings of a run passed on, and what its journal says of them.
-use Rattle.std.specs.Prelude.{◌≡◌, ℕ, true, false, List, length, map, reverse, All, slice_get, Some}
+use Rattle.std.specs.Prelude.{◌≡◌, ℕ, true, List, length, map, reverse, All, slice_get, Some}
 use Rattle.sound_model.specs.Regions.{Sounds}
 use Rattle.session_model.specs.declared.session.Session.{Session}
 use Rattle.session_model.specs.declared.edit.Edit.{Edit}
@@ -73,9 +73,9 @@ AllGenuine sounds s edits rings = (t : ℕ) (r : TrackRings) → slice_get rings
 pub record IsSpent (failed : Failures) (r : TrackRings) : Type 0 where
   -- the ring of items was closed exactly where a read has failed
   pub items : r.plays.closed ≡ failed.read
-  -- the capture ring was, and unless a write has failed all its blocks were received
+  -- the capture ring was, and all its blocks were received, whatever has failed
   pub blocks : r.takes.closed ≡ true
-  pub received : failed.write ≡ false → r.takes.received ≡ r.takes.sent
+  pub received : r.takes.received ≡ r.takes.sent
 
 abbrev pub AreSpent : Failures → List TrackRings → Type 0
 AreSpent failed rings = (t : ℕ) (r : TrackRings) → slice_get rings t ≡ Some r → IsSpent failed r

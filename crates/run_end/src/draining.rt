@@ -9,8 +9,8 @@ use butler::{ButlerFault, Turn};
 use ses_io::Media;
 use worker_pair::Ending;
 
-// Whether a turn was Idle. A turn that failed wasn't.
-fn is_idle(answer: &Result<Turn, ButlerFault>) -> bool
+/// Whether a turn of the butler was Idle. A turn that failed wasn't.
+pub fn is_idle(answer: &Result<Turn, ButlerFault>) -> bool
     ensures { result ≡ is_idle_answer answer.now }
 {
     matches!(answer, Ok(Turn::Idle))

@@ -8,6 +8,7 @@ mod leaving;
 mod lists;
 mod parting;
 
+pub use draining::is_idle;
 pub use failures::Failures;
 pub use leaving::leave;
 pub use lists::RunLists;

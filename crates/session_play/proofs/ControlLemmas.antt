@@ -12,7 +12,8 @@ use Rattle.engine_model.specs.Lines.{Line, accepted_of, control_limit, is_too_lo
 use Rattle.engine_model.specs.Replies.{Reply}
 use Rattle.edit_script.specs.Reading.{read_line}
 use Rattle.control_lines.specs.Lines.{LinesState, allowance, at_first, to_come, unread}
-use Rattle.control_desk.specs.GoesOn.{AddsReplies, GoesOn, Passes, ReadsLines}
+use Rattle.control_desk.specs.GoesOn.{AddsReplies, GoesOn, HasLastInPart, Passes, ReadsLines}
+use Rattle.control_desk.proofs.WritingLemmas.{adds_front}
 use Rattle.control_desk.specs.Standing as desk
 use Rattle.control_desk.specs.Standing.{Standing, Ready, Awaits, Ended, read_failed, write_failed}
 use Rattle.control_desk.specs.declared.standing.End.TheVariants.{NoLine, Quit, ReadFailed, WriteFailed}
@@ -181,16 +182,20 @@ module _ {M I C W O : Type 0} (source : SourceOutside C) (sink : SinkOutside O) 
   pub record HasReplies (text : List ℕ) : Type 0 where
     pub all : sink.tells → f.faults.out ≡ false → sink.held f.world.out ≡ sink.held o.world.out ++ text
     pub front : sink.tells → AppendsSome (sink.held o.world.out) (sink.held f.world.out) text
+    pub cut : f.faults.out ≡ true → HasLastInPart sink g.replies o.world.out f.world.out
 
   replies_by : (script : Option Script) → GoesOn source sink (first script) g.lines g.replies g.takes.control → HasReplies (said (option_map (λ q. q.from) script) g.replies)
   replies_by (Some q) goes = let is = said_by source sink (first (Some q)) g.takes.control g.lines g.replies (export_lines q.from) g.takes.control.script goes.passes in
       let same : sink.held f.world.out ≡ sink.held o.world.out = ap (λ (x : O). sink.held x) (sym out_is ∙ is.out) in record {
         all = λ t written. same ∙ sym (append-nil (sink.held o.world.out));
         front = λ t. front_of_nothing (sink.held o.world.out) (sink.held f.world.out) [] same;
+        cut = λ bad. absurd (true≢false (sym bad ∙ sym write_is ∙ is.write));
       }
   replies_by None goes = let adds = added_by source sink (first None) g.takes.control g.lines g.replies g.takes.control.script goes.passes in record {
     all = λ t written. ap (λ (x : O). sink.held x) (sym out_is) ∙ adds.all t (write_is ∙ written);
-    front = λ t. subst (λ (x : O). AppendsSome (sink.held o.world.out) (sink.held x) (reply_texts g.replies)) out_is (adds.front t);
+    front = λ t. subst (λ (x : O). AppendsSome (sink.held o.world.out) (sink.held x) (reply_texts g.replies)) out_is
+        (adds_front sink g.replies o.world.out g.takes.control.out (write_failed g.takes.control.standing) adds t);
+    cut = λ bad. subst (HasLastInPart sink g.replies o.world.out) out_is (adds.cut refl (write_is ∙ bad));
   }
 
   pub has_replies : HasReplies (said (option_map (λ q. q.from) o.script) g.replies)

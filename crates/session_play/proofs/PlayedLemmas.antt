@@ -40,6 +40,7 @@ use Rattle.session_play.specs.Loading.{IsHeard, IsLoadedFor}
 use Rattle.session_play.specs.Played.{HandsOn, IsRun}
 use Rattle.session_play.specs.Ready.{loaded_of}
 use Rattle.session_play.specs.Recorded.{GetsItsMaster, LeavesItsRings, LeavesItsTakes, ReadsItsInput, recorded_by}
+use Rattle.control_desk.specs.GoesOn.{HasLastInPart}
 use Rattle.session_play.specs.Reported.{IsStill, Reports, TellsOut, head_of, reported_with, said, told}
 use Rattle.session_play.specs.Request.{Request}
 use Rattle.session_opening.specs.Sounds.{bytes_of_block, input_left, sounds_in}
@@ -134,7 +135,7 @@ module _ {M I C W O : Type 0} (media : MediaOutside M) (inputs : SourceOutside I
       whole = whole f.faults.out refl;
       sure = sure f.faults.out refl;
       front = front f.faults.out refl;
-      silent = λ is t. subst (λ (x : O). AppendsSome (outs.held o.world.out) (outs.held x) heard_so_far) (sym (reports.silent is)) (has.front t);
+      silent = λ is. subst (HasLastInPart outs replies o.world.out) (sym (reports.silent is)) (has.cut is);
       later = omega (arith, leaves.counts.outs.later, reports.later);
       raised = raised f.faults.out refl;
       kept = λ none silent. reports.kept none silent ∙ leaves.counts.outs.kept (neither f.faults.out reports.unreported none);

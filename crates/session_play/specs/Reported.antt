@@ -11,6 +11,7 @@ use Rattle.cycle_journal.specs.declared.head.ReportHead.{ReportHead}
 use Rattle.cycle_journal.specs.declared.status.Status.{Status}
 use Rattle.cycle_journal.specs.Report.{report}
 use Rattle.cycle_journal.specs.RunReport.{reported}
+use Rattle.control_desk.specs.GoesOn.{HasLastInPart}
 use Rattle.control_desk.specs.Texts.{reply_texts}
 use Rattle.fault_lines.specs.Fault.{fault_line, fault_words}
 use Rattle.run_world.specs.declared.finished.Finished.{Finished}
@@ -57,8 +58,8 @@ module _ {M I C W O : Type 0} where
     -- where nothing of it has failed, and the status has no line, it's whole whatever the count was
     pub sure : outs.tells → (f.faults.out || unreported) ≡ false → fault_line status ≡ [] → outs.held new ≡ outs.held old ++ told r s f replies status
     pub front : outs.tells → AppendsSome (outs.held old) (outs.held new) (told r s f replies status)
-    -- once the write of a reply has failed nothing follows
-    pub silent : f.faults.out ≡ true → outs.tells → AppendsSome (outs.held old) (outs.held new) (said r.script replies)
+    -- once the write of a reply has failed nothing follows, and it is the last that was given: no line is carried out after it
+    pub silent : f.faults.out ≡ true → HasLastInPart outs replies old new
     -- out's count never falls, rose where a reply or the report has failed, and else only where the last line has
     pub later : outs.faults old ≤ outs.faults new
     pub raised : (f.faults.out || unreported) ≡ true → risen (outs.faults old) ≤ outs.faults new

@@ -31,7 +31,8 @@ use Rattle.worker_pair.specs.Plays.{Looks}
 use Rattle.worker_pair.specs.Runs.{HasEntered, Runs, Serves}
 use Rattle.worker_pair.specs.Tied.{IsControlRing, IsTied, rings_of}
 use Rattle.worker_pair.proofs.AgainLemmas.{all_meet_known, all_out, meet_known}
-use Rattle.worker_pair.proofs.MetLemmas.{ServesApart, meet_at, rings_met, serves_met}
+use Rattle.worker_pair.specs.Apart.{ServesApart}
+use Rattle.worker_pair.proofs.MetLemmas.{meet_at, rings_met, serves_met}
 use Rattle.worker_pair.proofs.NowLemmas.{control_on}
 use Rattle.worker_pair.proofs.GatherLemmas.{look_ups_are_over, looked_core, rings_looked, track_within}
 

@@ -1,13 +1,11 @@
 -- What a meeting of all ends gives: each knows all that the other did, and else all is as it was.
 use Rattle.std.proofs.Common.{◌≡◌, ℕ, ◌<◌, List, length, get_or, refl, sym, ap, subst, ◌∙◌, arith}
-use Rattle.std.specs.Prelude.{false, map, reverse, slice_get, Some}
+use Rattle.std.specs.Prelude.{map, reverse, slice_get, Some}
 use Rattle.std.proofs.lemmas.Option.{slice_get_within, get_or_from_slice_get}
-use mathlib.Core.List.{IsPrefix}
 use Rattle.ses_io.specs.Outside.{MediaOutside}
 use Rattle.session_model.specs.declared.session.Session.{Session}
 use Rattle.machine_model.specs.Core.{Core}
 use Rattle.machine_laws.proofs.Tracks.{also_there}
-use Rattle.edition_log.specs.EditionState.{IsEditionOf}
 use Rattle.disk_ring.specs.Sender.{Sender}
 use Rattle.disk_ring.specs.Receiver.{Receiver}
 use Rattle.piece_item.specs.declared.ack.Ack.{Ack}
@@ -19,14 +17,14 @@ use Rattle.ring_meeting.specs.Told.{AreTold}
 use Rattle.read_ahead.specs.Items.{kinds}
 use Rattle.butler.specs.ButlerState.{ButlerState, Rested, rested, resumed}
 use Rattle.butler.specs.Laws.{IsKeptBy}
-use Rattle.butler.specs.Serving.{IsServing, IsTrueTo}
 use Rattle.butler.proofs.MeetingLemmas.{meeting_keeps}
 use Rattle.process_ends.specs.declared.ends.ProcessEnds.{ProcessEnds}
 use Rattle.process_ends.specs.Ends.{AreOfOneRing, Meet, AllMeet, AreOtherEnds, EndsMeet}
 use Rattle.worker_pair.specs.declared.ending.Ending.{Ending}
+use Rattle.worker_pair.specs.Apart.{ServesApart}
 use Rattle.worker_pair.specs.Begun.{At}
 use Rattle.worker_pair.specs.Met.{KnowEachOther, AllKnow, HaveMet}
-use Rattle.worker_pair.specs.Never.{NeverRecords, NothingIsTaken}
+use Rattle.worker_pair.specs.Never.{NothingIsTaken}
 use Rattle.worker_pair.specs.Runs.{Serves}
 use Rattle.worker_pair.specs.Takes.{FilesStand, run_of}
 use Rattle.worker_pair.specs.Tied.{captured_of, AreRingsOf}
@@ -132,17 +130,6 @@ module _ {V : Type 0} where
   -- the butler that was given its ends back
   pub resumes : (b : ButlerState V) (theirs : ButlerEnds) (r : Rested V) (c : ButlerState V) → c ≡ resumed r theirs → r ≡ rested b → c ≡ record b { ends = theirs }
   resumes b theirs r c back out = back ∙ ap (λ z. resumed z theirs) out
-
-  -- all that is so of a butler that serves but that its ends have met the process's
-  pub record ServesApart (media : MediaOutside V) (at : At) (e : Ending V) : Type 0 where
-    pub edition_of : IsEditionOf at.begun.session e.edition
-    pub served_of : IsPrefix at.served e.edition.edits
-    pub serving : IsServing at.begun.session at.served e.butler
-    pub others : AreOtherEnds e.ends e.butler.ends
-    pub never : at.begun.records ≡ false → NeverRecords at.begun.session e.edition.edits
-    pub no_take : at.begun.records ≡ false → NothingIsTaken e.ends.takes.items
-    pub files : FilesStand media at.begun e.butler
-    pub true_to : media.tells → IsTrueTo at.begun.files at.begun.session at.served e.butler
 
   -- what a butler keeps in a meeting
   pub kept_met : (s : Session) (at : At) (e : Ending V) (ours : ProcessEnds) (theirs : ButlerEnds) → AreOtherEnds e.ends e.butler.ends → EndsMeet e.ends e.butler.ends ours theirs →

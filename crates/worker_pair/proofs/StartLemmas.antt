@@ -45,7 +45,8 @@ use Rattle.worker_pair.specs.Met.{HaveMet}
 use Rattle.worker_pair.specs.Never.{NeverRecords, NothingIsTaken}
 use Rattle.worker_pair.specs.Runs.{Runs, Serves}
 use Rattle.worker_pair.specs.Starts.{HaveBegun, HaveWorkers, IsBegunBy, MayBegin}
-use Rattle.worker_pair.specs.Takes.{FilesStand, MayRecord, run_of}
+use Rattle.butler.specs.Takes.{MayRecord}
+use Rattle.worker_pair.specs.Takes.{FilesStand, run_of}
 use Rattle.worker_pair.specs.Tied.{AreRingsOf, IsTrackOf, rings_of}
 use Rattle.worker_pair.proofs.NeverLemmas.{never_first}
 use Rattle.worker_pair.proofs.NewRingLemmas.{acks_first, control_first, met_first, new_for_process, no_take_first, tracks_first}

@@ -1,7 +1,6 @@
 -- What a turn of the butler, of one item, and a meeting after it do, where all ends had met.
-use Rattle.std.proofs.Common.{◌≡◌, ◌+◌, ◌-◌, ◌^◌, ◌<◌, ◌≤◌, List, [], ◌∷◌, length, length-append, refl, sym, ap, subst, ◌∙◌, arith, append-nil}
-use Rattle.std.specs.Prelude.{Bool, min, true, false, if◌then◌else◌, Result, Ok, Err}
-use Rattle.std.proofs.lemmas.Bool.{true≢false}
+use Rattle.std.proofs.Common.{◌≡◌, ◌<◌, List, [], length, refl, sym, ap, subst, ◌∙◌, arith, append-nil}
+use Rattle.std.specs.Prelude.{Bool, true, false, if◌then◌else◌, Result, Ok, Err}
 use Rattle.std.proofs.lemmas.Option.{get_or_from_slice_get}
 use Rattle.ses_io.specs.Files.{content}
 use Rattle.ses_io.specs.Outside.{MediaOutside, OnlyReads}
@@ -12,12 +11,11 @@ use Rattle.piece_item.specs.declared.item.Item.{Item}
 use Rattle.piece_item.specs.declared.take_block.TakeBlock.{TakeBlock}
 use Rattle.piece_item.specs.declared.butler_ends.ButlerEnds.{ButlerEnds}
 use Rattle.capture_drain.specs.Drains.{total_received}
-use Rattle.capture_drain.specs.Files.{NotesFault}
 use Rattle.butler.specs.declared.turning.Turn.{Turn}
 use Rattle.butler.specs.declared.faults.ButlerFault.{ButlerFault}
 use Rattle.butler.specs.declared.faults.ButlerFault.TheVariants.{ReadFault, WriteFault}
 use Rattle.butler.specs.ButlerState.{ButlerState, Rested, rested}
-use Rattle.butler.specs.Faults.{Counts, Fails, KeepsRest, is_write_fault}
+use Rattle.butler.specs.Faults.{Fails, KeepsRest, is_write_fault}
 use Rattle.butler.specs.Serving.{AreStocked, IsServing, SourcesStand}
 use Rattle.butler.specs.Turns.{Receives, TakesAreKept, AllSend, StaysTrue, Answers}
 use Rattle.butler.proofs.SourceLemmas.{sources_are_no_takes}
@@ -27,9 +25,12 @@ use Rattle.worker_pair.specs.declared.ending.Ending.{Ending}
 use Rattle.worker_pair.specs.Begun.{At, turned, served_at}
 use Rattle.worker_pair.specs.Runs.{Serves}
 use Rattle.worker_pair.specs.Steps.{IsTurned}
-use Rattle.worker_pair.specs.Takes.{FilesStand, HoldsTakes, MayRecord}
+use Rattle.butler.specs.Takes.{MayRecord}
+use Rattle.butler.proofs.TakesLemmas.{takes_turned}
+use Rattle.worker_pair.specs.Takes.{FilesStand}
 use Rattle.worker_pair.proofs.AgainLemmas.{all_in, all_out, still_out}
-use Rattle.worker_pair.proofs.MetLemmas.{have_met, others_met, flush_met, no_take_met, with_ends, ServesApart, kept_met, serves_met}
+use Rattle.worker_pair.specs.Apart.{ServesApart}
+use Rattle.worker_pair.proofs.MetLemmas.{have_met, others_met, flush_met, no_take_met, with_ends, kept_met, serves_met}
 use Rattle.worker_pair.proofs.TotalLemmas.{none_received, nothing_in_all, same_in_all}
 
 module _ {V : Type 0} (media : MediaOutside V) where
@@ -93,21 +94,6 @@ module _ {V : Type 0} (media : MediaOutside V) where
       acks = still_out e.ends.to_butler e.butler.ends.acks b.ends.acks met.acks turn.receives.acks.goes_on;
     }
 
-    -- where no write has failed no take has
-    none_failed : (given : Result Turn ButlerFault) → NotesFault (is_write_fault given) e.butler.drain.files b.drain.files → HoldsTakes media at.begun e.butler →
-        (if is_write_fault given then true else e.butler.write_failed) ≡ false → b.drain.files.failed ≡ []
-    none_failed (Ok t) noted held fine = noted ∙ held.none_failed fine
-    none_failed (Err ReadFault) noted held fine = noted ∙ held.none_failed fine
-    none_failed (Err WriteFault) noted held fine = absurd (true≢false fine)
-
-    -- and no more have than writes did
-    no_more : (given : Result Turn ButlerFault) → NotesFault (is_write_fault given) e.butler.drain.files b.drain.files → Counts (is_write_fault given) (media.write_faults e.butler.media) (media.write_faults b.media) →
-        min (at.begun.write_faults + length e.butler.drain.files.failed) (2 ^ 64 - 1) ≤ media.write_faults e.butler.media →
-        min (at.begun.write_faults + length b.drain.files.failed) (2 ^ 64 - 1) ≤ media.write_faults b.media
-    no_more (Ok t) noted counts many = omega (arith, ap length noted, counts, many)
-    no_more (Err ReadFault) noted counts many = omega (arith, ap length noted, counts, many)
-    no_more (Err WriteFault) noted counts many = omega (arith, ap length noted.1, length-append e.butler.drain.files.failed (noted.0 ∷ []), counts.rose, many)
-
     -- ---- and a meeting
 
     module _ (ours : ProcessEnds) (theirs : ButlerEnds) (meet : EndsMeet e.ends b.ends ours theirs) where
@@ -139,11 +125,7 @@ module _ {V : Type 0} (media : MediaOutside V) where
         same = λ quiet. (only_reads quiet).files ∙ serves.files.same quiet;
         unwritten = λ quiet. turn.fails.write_failed ∙ ap (λ w. if w then true else e.butler.write_failed) (no_write_at quiet answer turn.answers) ∙ serves.files.unwritten quiet;
         may_record = λ records tells. subst (MayRecord at.begun.session at.begun.files) (sym turn.rest.sources) (serves.files.may_record records tells);
-        takes = λ records tells. let held = serves.files.takes records tells in record {
-          flushed = turn.takes tells held.flushed;
-          none_failed = λ fine. none_failed answer turn.fails.noted held (sym turn.fails.write_failed ∙ fine);
-          many = no_more answer turn.fails.noted turn.fails.writes held.many;
-        };
+        takes = λ records tells. takes_turned media (served_at at) at.begun.write_faults e.butler b answer (turn.takes tells) turn.fails (serves.files.takes records tells);
       }
 
       -- the files of the sources stand

@@ -6,6 +6,7 @@ pub mod Takes
 pub mod Tied
 pub mod Catching
 pub mod Runs
+pub mod Apart
 pub mod Starts
 pub mod Steps
 pub mod Closes

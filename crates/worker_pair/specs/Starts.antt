@@ -21,7 +21,7 @@ use Rattle.process_cycle.specs.Playing.{HasBegun}
 use Rattle.worker_pair.specs.declared.beginning.Start.{Start}
 use Rattle.worker_pair.specs.declared.pair.Pair.{Pair}
 use Rattle.worker_pair.specs.Begun.{Begun, begun_with, at_first}
-use Rattle.worker_pair.specs.Takes.{MayRecord}
+use Rattle.butler.specs.Takes.{MayRecord}
 use Rattle.worker_pair.specs.Runs.{Runs}
 use Rattle.worker_pair.specs.Tied.{IsTied}
 

@@ -52,7 +52,7 @@ returns-then-idle-clause-feeds g c = let inv = c.serving.invariant in fed.feeds_
 
 pub returns-then-idle-clause-flushed : goal.returns-then-idle-clause-flushed
 returns-then-idle-clause-flushed g c = let run = c.serving.run in let turned = c.turn-idle.new.self in let turns = c.turn-idle.ensures.turns in let under = c.turn-idle.ensures.under_way in
-    λ fine. received_last g.M.Media.outside (now_of g.on run) (rings_of run.pair) c.serving.invariant.under_way.rests.serves (rings_of turned.pair) turns.answer (sym turns.idle_is ∙ c.if-idle.true) turns.turns
+    received_last g.M.Media.outside (now_of g.on run) (rings_of run.pair) c.serving.invariant.under_way.rests.serves (rings_of turned.pair) turns.answer (sym turns.idle_is ∙ c.if-idle.true) turns.turns
     (now_of g.on turned) under.rests.serves
 
 pub returns-then-idle-clause-ends_idle : goal.returns-then-idle-clause-ends_idle

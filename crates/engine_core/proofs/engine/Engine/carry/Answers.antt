@@ -62,7 +62,7 @@ returns-clause-may g c = let did = c.answer.ensures in let r = c.args.self.now.r
 
 pub returns-clause-carries : goal.returns-clause-carries
 returns-clause-carries g c = let did = c.answer.ensures in let r = c.args.self.now.run in let e = c.publish-answer.new.self.edition in record {
-  only = ap (λ p. record r { pair = p }) c.publish-answer.ensures.same;
+  only = carry.only_published r c.publish-answer.new.self c.publish-answer.ensures.same;
   letter = letters.publishes g.C.Source.outside g.O.Sink.outside g.on.begun.session c.progress-seen.result (shows r) c.progress-seen.ensures.shows (edits_of r) c.args.self.now.control c.answer.new.self
       (record { replies = did.replies; goes = did.goes }) (sym did.ready ∙ c.if-not-answer.false) c.in-Some.edit c.next.new.self c.in-Some.ensures.step r.pair.edition e c.publish-answer.result c.published.new.self
       refl c.requires.1.1.1.1.1.under_way.rests.serves.edition_of c.publish-answer.ensures.applies c.published.ensures.replies c.published.ensures.goes;

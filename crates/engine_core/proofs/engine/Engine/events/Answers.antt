@@ -14,5 +14,5 @@ loop-at-preserved g c = let events = c.args.events.now in
     (one_more g.on.letters events c.loop-at.at Control c.loop-at-test.true) (c.event.ensures.goes (g.on.letters ++ map letter_of (take c.loop-at.at events)) c.loop-at.invariant)
 
 pub returns : goal.returns
-returns g c = subst (λ l. IsGoing g.M.Media.outside g.I.Source.outside g.C.Source.outside g.W.Sink.outside g.O.Sink.outside (given (and_given l g.on)) c.loop-at.engine)
+returns g c = subst (λ l. IsGoing g.M.Media.outside g.I.Source.outside g.C.Source.outside g.W.Sink.outside g.O.Sink.outside (given (and_given l g.on)) c.loop-at.self)
     (taken_all c.args.events.now c.loop-at.at c.loop-at-test.false) c.loop-at.invariant

@@ -1,4 +1,4 @@
--- What the master of a run holds, whatever has failed.
+-- What a process leaves of its master, whatever has failed.
 use Rattle.std.specs.Prelude.{◌≡◌, suc, ◌<◌, false, [], ◌++◌, length, List}
 use Rattle.std.specs.List.{flat_map}
 use Rattle.sound_model.specs.Regions.{Sounds}
@@ -16,17 +16,16 @@ use Rattle.process_cycle.specs.Looked.{HasLooked}
 use Rattle.process_cycle.specs.Playing.{IsPlaying}
 use Rattle.process_cycle.specs.Promised.{AllOfTrack, IsMastered}
 use Rattle.process_cycle.specs.ProcessState.{ProcessState, Playing, items_of}
-use Rattle.worker_pair.specs.Begun.{Begun}
 
 module _ {I W : Type 0} where
   -- ---- where a write failed
 
   -- The write of the header failed: there is no entry, and a front of it was written.
-  pub record IsCutAtHead (inputs : SourceOutside I) (sinks : SinkOutside W) (begun : Begun) (p : ProcessState I W) : Type 0 where
+  pub record IsCutAtHead (inputs : SourceOutside I) (sinks : SinkOutside W) (at : Playing) (p : ProcessState I W) : Type 0 where
     pub none : p.journal.items ≡ []
     -- no block of the input was read
-    pub read : IsReadTo inputs (record { start = begun.start; blocks = 0 }) p.input
-    pub front : sinks.tells → AppendsSome begun.before (sinks.held p.master.sink) (head_bytes begun.session p.journal.room)
+    pub read : IsReadTo inputs (record { start = at.start; blocks = 0 }) p.input
+    pub front : sinks.tells → AppendsSome at.before (sinks.held p.master.sink) (head_bytes at.session p.journal.room)
 
   -- The write of a block failed: the process as it was before that cycle, in which no entry was made, and a front of its block.
   pub record IsCutInCycle (inputs : SourceOutside I) (sinks : SinkOutside W) (at : Playing) (p : ProcessState I W) : Type 0 where
