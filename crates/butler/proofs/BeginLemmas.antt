@@ -22,7 +22,7 @@ seen h ends = record {
   drain = h.drain;
   nexts = h.nexts.items;
   entered = h.entered;
-  read_failed = h.read_failed;
+  hushed = h.hushed;
   write_failed = h.write_failed;
 }
 
@@ -38,6 +38,6 @@ begins s e held cycles ends may media h has none = λ i. record {
   drain = h.drain;
   nexts = sym has.nexts i;
   entered = sym has.entered i;
-  read_failed = sym has.no_read_failed i;
+  hushed = sym has.not_hushed i;
   write_failed = sym has.no_write_failed i;
 }

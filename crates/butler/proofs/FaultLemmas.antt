@@ -36,7 +36,7 @@ module _ {V : Type 0} (outside : MediaOutside V) (at : Served) (e : Edition) (mo
 
   pub cut_fails : Fails outside b cut f
   cut_fails = let before = flushed.media_before outside at e most b c d f accepts enters (Err fault) flushes in let cause = flushes.media.cause in record {
-    read_failed = flushed.reads_after outside at e most b c d f accepts enters (Err fault) flushes;
+    hushed = flushed.reads_after outside at e most b c d f accepts enters (Err fault) flushes;
     write_failed = flushes.flag;
     reads = flushed.read_faults outside at e most b c d f accepts enters (Err fault) flushes;
     writes = subst (λ (m : V). HasRisen (outside.write_faults m) (outside.write_faults f.media)) before (record { later = cause.later; rose = cause.rose });
@@ -67,7 +67,7 @@ module _ {V : Type 0} (outside : MediaOutside V) (at : Served) (e : Edition) (mo
   writes_as : g.write_failed ≡ b.write_failed
   writes_as = ap (λ z. z.write_failed) sends.same ∙ (flushed.counted outside at e most n b c d f accepts enters flushes).2
 
-  before : f.read_failed ≡ b.read_failed
+  before : f.hushed ≡ b.hushed
   before = flushed.reads_after outside at e most b c d f accepts enters (Ok n) flushes
 
   pub receives : Receives b g
@@ -84,18 +84,18 @@ module _ {V : Type 0} (outside : MediaOutside V) (at : Served) (e : Edition) (mo
   noted : NotesFault false b.drain.files g.drain.files
   noted = subst (λ (x : DrainState). NotesFault false b.drain.files x.files) (sym drain_as) (flushed.noted outside at e most b c d f accepts enters (Ok n) flushes)
 
-  no_more_sent : b.read_failed ≡ true → g.ends.sends ≡ b.ends.sends
+  no_more_sent : b.hushed ≡ true → g.ends.sends ≡ b.ends.sends
   no_more_sent was = ap (λ z. z.ends.sends) (sends.quiet (before ∙ was)).0 ∙ flushed.sends_after outside at e most b c d f accepts enters (Ok n) flushes
 
   writes_stand : outside.write_faults g.media ≡ outside.write_faults b.media
   writes_stand = sends.read.only_reads.other_count ∙ flushes.media.cause.kept ∙ ap outside.write_faults (flushed.media_before outside at e most b c d f accepts enters (Ok n) flushes)
 
-  read_failed_by : (failed : Bool) → b.read_failed ≡ failed → (x : ℕ) → result ≡ Ok x → g.read_failed ≡ b.read_failed
-  read_failed_by true was x same = ap (λ z. z.read_failed) (sends.quiet (before ∙ was)).0 ∙ before
-  read_failed_by false was x same = (sends.busy (before ∙ was)).1 ∙ ap is_err same ∙ sym was
+  hushed_by : (failed : Bool) → b.hushed ≡ failed → (x : ℕ) → result ≡ Ok x → g.hushed ≡ b.hushed
+  hushed_by true was x same = ap (λ z. z.hushed) (sends.quiet (before ∙ was)).0 ∙ before
+  hushed_by false was x same = (sends.busy (before ∙ was)).1 ∙ ap is_err same ∙ sym was
 
-  has_failed : (failed : Bool) → b.read_failed ≡ failed → is_err result ≡ true → g.read_failed ≡ true
-  has_failed true was err = err_is_ok (g.read_failed ≡ true) result 0 err (sends.quiet (before ∙ was)).1
+  has_failed : (failed : Bool) → b.hushed ≡ failed → is_err result ≡ true → g.hushed ≡ true
+  has_failed true was err = err_is_ok (g.hushed ≡ true) result 0 err (sends.quiet (before ∙ was)).1
   has_failed false was err = (sends.busy (before ∙ was)).1 ∙ err
 
   total_as : total_received g.ends.takes.items ≡ total_received f.ends.takes.items
@@ -118,7 +118,7 @@ module _ {V : Type 0} (outside : MediaOutside V) (at : Served) (e : Edition) (mo
         λ flushed_none. nothing.0 ∙ flushed.media_stands outside at e most b c d f accepts enters (Ok n) flushes (sym total_as ∙ flushed_none),
       )
 
-  read_once : b.read_failed ≡ true → (g.sources ≡ b.sources) × (total_received g.ends.takes.items ≡ total_received b.ends.takes.items → g.media ≡ b.media)
+  read_once : b.hushed ≡ true → (g.sources ≡ b.sources) × (total_received g.ends.takes.items ≡ total_received b.ends.takes.items → g.media ≡ b.media)
   read_once was = let quiet = sends.quiet (before ∙ was) in (
     ap (λ z. z.sources) quiet.0 ∙ flushed.sources_after outside at e most b c d f accepts enters (Ok n) flushes,
     λ none. ap (λ z. z.media) quiet.0 ∙ flushed.media_stands outside at e most b c d f accepts enters (Ok n) flushes (sym total_as ∙ none),
@@ -139,7 +139,7 @@ module _ {V : Type 0} (outside : MediaOutside V) (at : Served) (e : Edition) (mo
     (flushes : Flushes outside (start_of at) most d (Ok n) f) (sends : SendsOn outside e limit f (Ok m) g) where
   pub none_fails : (turn : Turn) → Fails outside b (Ok turn) g
   none_fails turn = record {
-    read_failed = read_failed_by outside at e most n limit b c d f g accepts enters flushes (Ok m) sends b.read_failed refl m refl;
+    hushed = hushed_by outside at e most n limit b c d f g accepts enters flushes (Ok m) sends b.hushed refl m refl;
     write_failed = writes_as outside at e most n limit b c d f g accepts enters flushes (Ok m) sends;
     reads = sends.read.cause.kept ∙ flushed.read_faults outside at e most b c d f accepts enters (Ok n) flushes;
     writes = writes_stand outside at e most n limit b c d f g accepts enters flushes (Ok m) sends;
@@ -154,7 +154,7 @@ module _ {V : Type 0} (outside : MediaOutside V) (at : Served) (e : Edition) (mo
     (flushes : Flushes outside (start_of at) most d (Ok n) f) (sends : SendsOn outside e limit f (Err fault) g) where
   pub read_fails : Fails outside b (Err ReadFault) g
   read_fails = let cause = sends.read.cause in record {
-    read_failed = has_failed outside at e most n limit b c d f g accepts enters flushes (Err fault) sends b.read_failed refl refl;
+    hushed = has_failed outside at e most n limit b c d f g accepts enters flushes (Err fault) sends b.hushed refl refl;
     write_failed = writes_as outside at e most n limit b c d f g accepts enters flushes (Err fault) sends;
     reads = subst (λ (k : ℕ). HasRisen k (outside.read_faults g.media)) (flushed.read_faults outside at e most b c d f accepts enters (Ok n) flushes) (record { later = cause.later; rose = cause.rose });
     writes = writes_stand outside at e most n limit b c d f g accepts enters flushes (Err fault) sends;

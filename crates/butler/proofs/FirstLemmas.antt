@@ -159,7 +159,7 @@ module _ (s : Session) (e : Edition) (sources : List OpenedSource) (cycles : ℕ
       drain = drain;
       nexts = replicate 10001 0;
       entered = length e.edits;
-      read_failed = false;
+      hushed = false;
       write_failed = false;
     }
 

@@ -40,8 +40,8 @@ module _ {V : Type 0} (outside : MediaOutside V) (at : Served) (e : Edition) (mo
   pub sends_after : f.ends.sends ≡ b.ends.sends
   sends_after = ap (λ z. z.ends.sends) flushes.same ∙ ap (λ z. z.ends.sends) enters.same ∙ ap (λ z. z.ends.sends) accepts.same
 
-  pub reads_after : f.read_failed ≡ b.read_failed
-  reads_after = ap (λ z. z.read_failed) flushes.same ∙ ap (λ z. z.read_failed) enters.same ∙ ap (λ z. z.read_failed) accepts.same
+  pub reads_after : f.hushed ≡ b.hushed
+  reads_after = ap (λ z. z.hushed) flushes.same ∙ ap (λ z. z.hushed) enters.same ∙ ap (λ z. z.hushed) accepts.same
 
   pub sources_after : f.sources ≡ b.sources
   sources_after = ap (λ z. z.sources) flushes.same ∙ ap (λ z. z.sources) enters.same ∙ ap (λ z. z.sources) accepts.same

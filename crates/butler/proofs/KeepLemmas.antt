@@ -88,7 +88,7 @@ accept_keeps {V} s edits b c accepts is = let goes = accepts.acks.goes_on in sub
   cycles = is.cycles;
   acks_room = goes.room ∙ is.acks_room;
   table = accepts.table is.table;
-  tracks = λ t p d hp hd. tended_later s edits b.cycles t b.ends.acks.received c.ends.acks.received b.read_failed p d goes.received (is.tracks t p d hp hd);
+  tracks = λ t p d hp hd. tended_later s edits b.cycles t b.ends.acks.received c.ends.acks.received b.hushed p d goes.received (is.tracks t p d hp hd);
   taking = is.taking;
 }
 
@@ -111,7 +111,7 @@ module _ {V : Type 0} (s : Session) (before : List Edit) (e : Edition) (b c : Bu
   -- what a track had before it entered
   abbrev Was : ℕ → TrackSupply → Type 0
   Was t q = (p : TrackSupply) × (slice_get b.supplies t ≡ Some p)
-      × ((d : Sender Item) → slice_get b.ends.sends.items t ≡ Some d → IsTended s e.edits b.cycles t (acks_of b.ends.acks.received) b.read_failed q d)
+      × ((d : Sender Item) → slice_get b.ends.sends.items t ≡ Some d → IsTended s e.edits b.cycles t (acks_of b.ends.acks.received) b.hushed q d)
       × ((item : Item) → HasMade q item → HasMade p item)
 
   pub entered_was : (t : ℕ) (q : TrackSupply) → t < length s.tracks.items → slice_get c.supplies t ≡ Some q → Was t q
@@ -119,14 +119,14 @@ module _ {V : Type 0} (s : Session) (before : List Edit) (e : Edition) (b c : Bu
       (λ (last : b.entered ≡ length e.edits).
       let same : before ≡ e.edits = same_edits before grows.0 e.edits grows.1 (sym serving.entered ∙ last) in
       let hp : slice_get b.supplies t ≡ Some q = ap (λ (l : List TrackSupply). slice_get l t) (sym (enters.again last)) ∙ hq in
-      (q, hp, (λ d hd. subst (λ (es : List Edit). IsTended s es b.cycles t (acks_of b.ends.acks.received) b.read_failed q d) same (serving.tracks t q d hp hd)), λ item has. has))
+      (q, hp, (λ d hd. subst (λ (es : List Edit). IsTended s es b.cycles t (acks_of b.ends.acks.received) b.hushed q d) same (serving.tracks t q d hp hd)), λ item has. has))
       (λ (other : b.entered ≢ length e.edits).
       let all = enters.anew other in let sized = all.supplies in let near = slice_get_within c.supplies t q hq in
       let p = get_or b.supplies t q in let hp : slice_get b.supplies t ≡ Some p = slice_get-get_or b.supplies t q (omega arith) in
       let q_is = all.each t p q hp hq in (
         p,
         hp,
-        (λ d hd. tended_entered s before grows.0 e.edits b.cycles t (acks_of b.ends.acks.received) b.read_failed p q d e.transport.generation (slice_index_or e.touched t 0)
+        (λ d hd. tended_entered s before grows.0 e.edits b.cycles t (acks_of b.ends.acks.received) b.hushed p q d e.transport.generation (slice_index_or e.touched t 0)
             grows.1 (generation_is s e edition) (edition.touched t (few_tracks s t serving.valid low)) q_is (serving.tracks t p d hp hd)),
         λ item has. was_made p q item (ap (λ (z : TrackSupply). z.made) q_is) (ap (λ (z : TrackSupply). z.spare) q_is) has,
       )) where

@@ -17,6 +17,7 @@ pub mod FaultLemmas
 pub mod TakesLemmas
 pub mod AnswerLemmas
 pub mod MeetingLemmas
+pub mod HushLemmas
 pub mod SourceLemmas
 pub mod GrowLemmas
 pub mod FindLemmas

@@ -77,8 +77,8 @@ meeting_keeps s edits r old new told = let many = told.many in let captured = to
     table = subst (λ (a : Receiver Ack). IsTable r.nexts (acks_of a.received)) (sym told.acks) is.table;
     tracks = λ t p f hp hf. let near = slice_get_within new.sends.items t f hf in let d = get_or old.sends.items t f in let hd = slice_get-get_or old.sends.items t f (omega arith) in
         let tended = is.tracks t p d hp hd in
-        subst (λ (a : Receiver Ack). IsTended s edits r.cycles t (acks_of a.received) r.read_failed p f) (sym told.acks)
-        (subst (IsTended s edits r.cycles t (acks_of old.acks.received) r.read_failed p) (sym (told.sends t d f hd hf))
+        subst (λ (a : Receiver Ack). IsTended s edits r.cycles t (acks_of a.received) r.hushed p f) (sym told.acks)
+        (subst (IsTended s edits r.cycles t (acks_of old.acks.received) r.hushed p) (sym (told.sends t d f hd hf))
         record { depth = tended.depth; room = tended.room; closed = tended.closed; stands = tended.stands; made = tended.made });
     taking = is.taking;
   };

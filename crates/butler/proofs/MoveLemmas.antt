@@ -72,10 +72,10 @@ module _ {V : Type 0} (s : Session) (e : Edition) (old new : ButlerState V) (rec
   -- a track that has all a turn can give it
   cannot_send : (t : ℕ) (d f : Sender Item) → slice_get D t ≡ Some d → slice_get F t ≡ Some f → put f ≡ put d → IsDone s e.edits old.cycles t (acks_of new.ends.acks.received) d f →
       can_send s e old new t d ≡ false
-  cannot_send t d f hd hf same (inl closed) = and_left (not old.read_failed) (has_room d && is_some (due_of s e old new t d)) (ap not (sym (alone.sends t d f hd hf).2 ∙ closed))
-  cannot_send t d f hd hf same (inr (inl full)) = and_right (not old.read_failed) (has_room d && is_some (due_of s e old new t d))
+  cannot_send t d f hd hf same (inl closed) = and_left (not old.hushed) (has_room d && is_some (due_of s e old new t d)) (ap not (sym (alone.sends t d f hd hf).2 ∙ closed))
+  cannot_send t d f hd hf same (inr (inl full)) = and_right (not old.hushed) (has_room d && is_some (due_of s e old new t d))
       (and_left (has_room d) (is_some (due_of s e old new t d)) (found_full d f (sends t d f hd hf).depth same full))
-  cannot_send t d f hd hf same (inr (inr none)) = and_right (not old.read_failed) (has_room d && is_some (due_of s e old new t d))
+  cannot_send t d f hd hf same (inr (inr none)) = and_right (not old.hushed) (has_room d && is_some (due_of s e old new t d))
       (and_right (has_room d) (is_some (due_of s e old new t d)) (ap is_some (ap (λ l. due s e.edits old.cycles t (length e.edits) (acks_of new.ends.acks.received) (reverse l))
       (sym (kinds_stand s e.edits old.cycles t (acks_of new.ends.acks.received) d f (sends t d f hd hf) same ∙ append-nil (kinds d.sent))) ∙ none)))
 
@@ -143,7 +143,7 @@ module _ {V : Type 0} (s : Session) (e : Edition) (old new : ButlerState V) (rec
       }
 
     -- an item was sent
-    module _ (reads : old.read_failed ≡ false) (stand : Stand taken C B) (flushed : HasFlushed old new) (one : OneGrew put D F) where
+    module _ (reads : old.hushed ≡ false) (stand : Stand taken C B) (flushed : HasFlushed old new) (one : OneGrew put D F) where
       none_earlier : (u : ℕ) → u < one.place → can (Send u) ≡ false
       none_earlier u below = no_send_at u (λ c b hc hb. (
         one.others u c b (λ eq. omega (arith, below, eq)) hc hb,
@@ -164,7 +164,7 @@ module _ {V : Type 0} (s : Session) (e : Edition) (old new : ButlerState V) (rec
 
       sends_here : can (Send one.place) ≡ true
       sends_here = ap (λ o. option_map_or (can_send s e old new one.place) o false) one.was_there
-          ∙ and_from (not old.read_failed) (has_room one.was && is_some (due_of s e old new one.place one.was)) (ap not reads)
+          ∙ and_from (not old.hushed) (has_room one.was && is_some (due_of s e old new one.place one.was)) (ap not reads)
           (and_from (has_room one.was) (is_some (due_of s e old new one.place one.was)) room_here (ap is_some was_due.2))
 
       found_send : first_move s e old new ≡ Some (Send one.place)
@@ -190,10 +190,10 @@ module _ {V : Type 0} (s : Session) (e : Edition) (old new : ButlerState V) (rec
         answer = refl;
       }
 
-    pub moved : (old.read_failed ≡ true → new.ends.sends ≡ old.ends.sends) → MakesMove s e old (Moved 1) new (first_move s e old new)
+    pub moved : (old.hushed ≡ true → new.ends.sends ≡ old.ends.sends) → MakesMove s e old (Moved 1) new (first_move s e old new)
     moved quiet_sends = dite (ℕ_discrete (total_received B) (total_received C))
         (λ (none : total_received B ≡ total_received C). let more : total_sent F ≡ total_sent D + 1 = omega (arith, leaves.moved, none) in
-        sends_one (false_from_ne_true old.read_failed (λ failed. omega (arith, more, ap (λ z. total_sent z.items) (quiet_sends failed))))
+        sends_one (false_from_ne_true old.hushed (λ failed. omega (arith, more, ap (λ z. total_sent z.items) (quiet_sends failed))))
         (none_grew taken C B alone.many takes_rise none) (leaves.flushed_first (omega (arith, more))) (one_grew put D F alone.many_sends sends_rise more))
         (λ (some : total_received B ≢ total_received C). let fewer = never_less taken C B alone.many takes_rise in let fewer_sent = never_less put D F alone.many_sends sends_rise in
         let more : total_received B ≡ total_received C + 1 = omega (arith, leaves.moved, fewer, fewer_sent, some) in

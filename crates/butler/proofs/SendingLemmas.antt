@@ -50,7 +50,7 @@ pub record HasSentAll {V : Type 0} (s : Session) (e : Edition) (limit n : ℕ) (
   pub in_order : (u t : ℕ) (c g d f : Sender Item) → u < t → slice_get b.ends.sends.items u ≡ Some c → slice_get new.ends.sends.items u ≡ Some g →
       slice_get b.ends.sends.items t ≡ Some d → slice_get new.ends.sends.items t ≡ Some f → length d.sent < length f.sent → IsDone s e.edits b.cycles u (acks_of b.ends.acks.received) c g
   -- and then what is due of each track is made
-  pub ahead : n < limit → b.read_failed ≡ false → IsAhead e new
+  pub ahead : n < limit → b.hushed ≡ false → IsAhead e new
 
 -- every ring is closed
 abbrev pub AreClosed : List (Sender Item) → Type 0
@@ -75,7 +75,7 @@ pub record Comes {V : Type 0} (outside : MediaOutside V) (held : Files) (s : Ses
   -- by files whose sources hold what they held
   pub true_to : outside.tells → SourcesStand held (outside.files b.media) b.sources.opened → IsTrueTo held s e.edits b → IsTrueTo held s e.edits new
   pub answer : AnswersSent s e limit b result new
-  pub read_failed : new.read_failed ≡ (if is_err result then true else b.read_failed)
+  pub hushed : new.hushed ≡ (if is_err result then true else b.hushed)
 
 -- a track that had all has it once its ring is closed
 shut_done : (s : Session) (edits : List Edit) (cycles t : ℕ) (acks : List Ack) (c g f : Sender Item) → f ≡ record g { closed = true } → IsDone s edits cycles t acks c g → IsDone s edits cycles t acks c f
@@ -100,7 +100,7 @@ module _ {V : Type 0} (outside : MediaOutside V) (held : Files) (s : Session) (e
 
   -- with other supplies and rings too
   abbrev moved_to : V → SourcesState → List TrackSupply → Listed (Sender Item) → Bool → ButlerState V
-  moved_to m lines qs list failed = record b { media = m; sources = lines; supplies = qs; ends = record b.ends { sends = list }; read_failed = failed }
+  moved_to m lines qs list failed = record b { media = m; sources = lines; supplies = qs; ends = record b.ends { sends = list }; hushed = failed }
 
   still_serving : (m : V) (lines : SourcesState) (qs : List TrackSupply) (list : Listed (Sender Item)) (failed : Bool) → lines.opened ≡ b.sources.opened → length list.items ≡ length b.ends.sends.items → length qs ≡ length b.supplies →
       ((t : ℕ) (q : TrackSupply) (f : Sender Item) → slice_get qs t ≡ Some q → slice_get list.items t ≡ Some f → IsTended s e.edits b.cycles t A failed q f) → IsServing s e.edits (moved_to m lines qs list failed)
@@ -135,7 +135,7 @@ module _ {V : Type 0} (outside : MediaOutside V) (held : Files) (s : Session) (e
     made_after t q item hq has = let sized = serves.supplies in let ringed = serves.sends in let both = supplied in let near = slice_get_within qs t q hq in elim (slice_get_cases fs t).1 [
       | inl found ↦ (let f = found.0 in let d = get_or b.ends.sends.items t f in let hd = slice_get-get_or b.ends.sends.items t f (omega arith) in
           let at = served_at s e is seen b serving Told H qs fs serves supplied t q d f hq hd found.2 in
-          let stands = served_stands s e is b.cycles t A Told H b.read_failed at.0 q d f at.1.1 at.1.2 in elim (at.1.2.made item has) [
+          let stands = served_stands s e is b.cycles t A Told H b.hushed at.0 q d f at.1.1 at.1.2 in elim (at.1.2.made item has) [
             | inl had ↦ true_to.made t at.0 item at.1.0 had
             | inr new ↦ block_genuine H s e is b.cycles t A (kind_of item.kind) item.samples.items
                 (due_from s e.edits b.cycles t A q.progress (reverse (kinds f.sent)) (kind_of item.kind) stands new.0).1 (new.1 told)
@@ -181,7 +181,7 @@ module _ {V : Type 0} (outside : MediaOutside V) (held : Files) (s : Session) (e
       at_hand t q d f (inl full) = inl full.1
       at_hand t q d f (inr none) = inr none
 
-  comes_moved : (m : V) (lines : SourcesState) (qs : List TrackSupply) (list : Listed (Sender Item)) (n : ℕ) → b.read_failed ≡ false → Reads m lines (Ok n) →
+  comes_moved : (m : V) (lines : SourcesState) (qs : List TrackSupply) (list : Listed (Sender Item)) (n : ℕ) → b.hushed ≡ false → Reads m lines (Ok n) →
       AllServe Told (sounds_of outside b) (pass_of e b) b.supplies b.ends.sends.items qs list.items → HaveServed (pass_of e b) limit b.ends.sends.items qs list.items n →
       Comes outside held s e limit b (Ok n) (moved_to m lines qs list false)
   comes_moved m lines qs list n fine read serves answer = let fs = list.items in let S = sounds_of outside b in record {
@@ -198,10 +198,10 @@ module _ {V : Type 0} (outside : MediaOutside V) (held : Files) (s : Session) (e
       in_order = λ u t c g d f below hc hg hd hf more. done_after s e is seen b serving Told S qs fs serves supplied u c g hc hg (λ q hq. answer.in_order u t q c g d f below hq hc hg hd hf more);
       ahead = λ h well. all_ahead m lines (Ok n) read qs fs serves (answer.done h);
     };
-    read_failed = sym fine;
+    hushed = sym fine;
   }
 
-  comes_failed : (m : V) (lines : SourcesState) (qs : List TrackSupply) (list : Listed (Sender Item)) (fault : ReadFault) → b.read_failed ≡ false → Reads m lines (Err fault) →
+  comes_failed : (m : V) (lines : SourcesState) (qs : List TrackSupply) (list : Listed (Sender Item)) (fault : ReadFault) → b.hushed ≡ false → Reads m lines (Err fault) →
       HasFailed Told (sounds_of outside b) (pass_of e b) limit b.supplies b.ends.sends.items qs list.items → Comes outside held s e limit b (Err fault) (moved_to m lines qs list true)
   comes_failed m lines qs list fault fine read has = let fs = has.between in let serves = has.serves in let shut = has.shut in let sized = shut.sends in let S = sounds_of outside b in
       let before = λ (t : ℕ) (f : Sender Item) (hf : slice_get list.items t ≡ Some f). slice_get-get_or fs t f (let near = slice_get_within list.items t f hf in omega arith) in record {
@@ -223,11 +223,11 @@ module _ {V : Type 0} (outside : MediaOutside V) (held : Files) (s : Session) (e
               (done_after s e is seen b serving Told S qs fs serves supplied u c (get_or fs u g) hc lower (λ q hq. has.stopped.in_order u t q c (get_or fs u g) d (get_or fs t f) below hq hc lower hd (before t f hf)
               (let sent = ap (λ (z : Sender Item). length z.sent) (shut.each t (get_or fs t f) f (before t f hf) hf) in omega arith)));
         };
-        read_failed = refl;
+        hushed = refl;
       }
 
   -- after a fault nothing changes
-  comes_quiet : b.read_failed ≡ true → Comes outside held s e limit b (Ok 0) b
+  comes_quiet : b.hushed ≡ true → Comes outside held s e limit b (Ok 0) b
   comes_quiet failed = let same = λ (t : ℕ) (d f : Sender Item) (hd : slice_get b.ends.sends.items t ≡ Some d) (hf : slice_get b.ends.sends.items t ≡ Some f). same_Some d f (sym hd ∙ hf) in record {
     serving = serving;
     many = refl;
@@ -241,7 +241,7 @@ module _ {V : Type 0} (outside : MediaOutside V) (held : Files) (s : Session) (e
       in_order = λ u t c g d f below hc hg hd hf more. done_by_fault u c g hc;
       ahead = λ h fine. absurd (true≢false (sym failed ∙ fine));
     };
-    read_failed = refl;
+    hushed = refl;
   } where
     done_by_fault : (t : ℕ) (d f : Sender Item) → slice_get b.ends.sends.items t ≡ Some d → IsDone s e.edits b.cycles t A d f
     done_by_fault t d f hd = let sized = supplied in let near = slice_get_within b.ends.sends.items t d hd in elim (slice_get_cases b.supplies t).1 [
@@ -249,7 +249,7 @@ module _ {V : Type 0} (outside : MediaOutside V) (held : Files) (s : Session) (e
       | inr past ↦ (let end = past.0 in absurd (omega arith))
     ]
 
-  comes_by : (failed : Bool) (result : Result ℕ ReadFault) (new : ButlerState V) → b.read_failed ≡ failed → SendsOn outside e limit b result new → Comes outside held s e limit b result new
+  comes_by : (failed : Bool) (result : Result ℕ ReadFault) (new : ButlerState V) → b.hushed ≡ failed → SendsOn outside e limit b result new → Comes outside held s e limit b result new
   comes_by true result new was goes = let quiet = goes.quiet was in
       subst (λ (z : ButlerState V). Comes outside held s e limit b result z) (sym quiet.0) (subst (λ (r : Result ℕ ReadFault). Comes outside held s e limit b r b) (sym quiet.1) (comes_quiet was))
   comes_by false (Ok n) new was goes = let busy = goes.busy was in
@@ -260,4 +260,4 @@ module _ {V : Type 0} (outside : MediaOutside V) (held : Files) (s : Session) (e
       (comes_failed new.media new.sources new.supplies new.ends.sends fault was goes.read busy.0)
 
   pub comes : (result : Result ℕ ReadFault) (new : ButlerState V) → SendsOn outside e limit b result new → Comes outside held s e limit b result new
-  comes result new goes = comes_by b.read_failed result new refl goes
+  comes result new goes = comes_by b.hushed result new refl goes

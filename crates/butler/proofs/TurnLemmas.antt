@@ -128,7 +128,7 @@ module _ {V : Type 0} (s : Session) (e : Edition) (is : IsEditionOf s e) (seen :
   pub as_many : length b.supplies ≡ length e.session.tracks.items
   as_many = serving.supplies ∙ sym (tracks_are s e is)
 
-  pub all_stocked : AreStocked b.supplies b.drain b.ends → b.read_failed ≡ false → AllStocked e b.supplies b.ends.sends.items
+  pub all_stocked : AreStocked b.supplies b.drain b.ends → b.hushed ≡ false → AllStocked e b.supplies b.ends.sends.items
   all_stocked stocked fine = record {
     many = stocked.many;
     each = λ t p d hp hd. let tended = serving.tracks t p d hp hd in let st = tended.stands in let bounded = st.tracked.bounded in let far = st.near in let most = serving.cycles in (
@@ -140,7 +140,7 @@ module _ {V : Type 0} (s : Session) (e : Edition) (is : IsEditionOf s e) (seen :
   module _ (told : Type 0) (sounds : Sounds) (qs : List TrackSupply) (fs : List (Sender Item)) (serves : AllServe told sounds (pass_of e b) b.supplies b.ends.sends.items qs fs)
       (many : length b.supplies ≡ length b.ends.sends.items) where
     pub served_at : (t : ℕ) (q : TrackSupply) (d f : Sender Item) → slice_get qs t ≡ Some q → slice_get b.ends.sends.items t ≡ Some d → slice_get fs t ≡ Some f →
-        (p : TrackSupply) × ((slice_get b.supplies t ≡ Some p) × IsTended s e.edits b.cycles t A b.read_failed p d × Serves told sounds e (needs s e.edits b.cycles t (length e.edits) A) p d q f)
+        (p : TrackSupply) × ((slice_get b.supplies t ≡ Some p) × IsTended s e.edits b.cycles t A b.hushed p d × Serves told sounds e (needs s e.edits b.cycles t (length e.edits) A) p d q f)
     served_at t q d f hq hd hf = let sized = serves.supplies in let near = slice_get_within qs t q hq in let p = get_or b.supplies t q in let hp = slice_get-get_or b.supplies t q (omega arith) in
         (p, (hp, serving.tracks t p d hp hd, subst (λ n. Serves told sounds e n p d q f) (needs_are t d hd) (serves.each t p q d f hp hq hd hf).0))
 
@@ -150,12 +150,12 @@ module _ {V : Type 0} (s : Session) (e : Edition) (is : IsEditionOf s e) (seen :
       | inr past ↦ (let end = past.0 in absurd (omega arith))
     ]
 
-    pub tended_after : (t : ℕ) (q : TrackSupply) (f : Sender Item) → slice_get qs t ≡ Some q → slice_get fs t ≡ Some f → IsTended s e.edits b.cycles t A b.read_failed q f
+    pub tended_after : (t : ℕ) (q : TrackSupply) (f : Sender Item) → slice_get qs t ≡ Some q → slice_get fs t ≡ Some f → IsTended s e.edits b.cycles t A b.hushed q f
     tended_after t q f hq hf = let ringed = serves.sends in let near = slice_get_within fs t f hf in let d = get_or b.ends.sends.items t f in let hd = slice_get-get_or b.ends.sends.items t f (omega arith) in
-        let at = served_at t q d f hq hd hf in served_tended s e is b.cycles t A told sounds b.read_failed at.0 q d f at.1.1 at.1.2
+        let at = served_at t q d f hq hd hf in served_tended s e is b.cycles t A told sounds b.hushed at.0 q d f at.1.1 at.1.2
 
     pub sends_after : (t : ℕ) (d f : Sender Item) → slice_get b.ends.sends.items t ≡ Some d → slice_get fs t ≡ Some f → SendsOf s e.edits b.cycles t A d f
-    sends_after t d f hd hf = let has = supply_at t f hf in let at = served_at t has.0 d f has.1 hd hf in served_sends s e is b.cycles t A told sounds b.read_failed at.0 has.0 d f at.1.1 at.1.2
+    sends_after t d f hd hf = let has = supply_at t f hf in let at = served_at t has.0 d f has.1 hd hf in served_sends s e is b.cycles t A told sounds b.hushed at.0 has.0 d f at.1.1 at.1.2
 
     pub open_after : (t : ℕ) (d f : Sender Item) → slice_get b.ends.sends.items t ≡ Some d → slice_get fs t ≡ Some f → f.closed ≡ d.closed
     open_after t d f hd hf = let has = supply_at t f hf in let at = served_at t has.0 d f has.1 hd hf in ap (λ (z : Sender Item). z.closed) at.1.2.ring
@@ -163,4 +163,4 @@ module _ {V : Type 0} (s : Session) (e : Edition) (is : IsEditionOf s e) (seen :
     pub done_after : (t : ℕ) (d f : Sender Item) → slice_get b.ends.sends.items t ≡ Some d → slice_get fs t ≡ Some f →
         ((q : TrackSupply) → slice_get qs t ≡ Some q → IsServed (needs_of (target_of (pass_of e b) t)) d q f) → IsDone s e.edits b.cycles t A d f
     done_after t d f hd hf served = let has = supply_at t f hf in
-        served_done s e is b.cycles t A b.read_failed has.0 d f (tended_after t has.0 f has.1 hf) (subst (λ n. IsServed n d has.0 f) (needs_are t d hd) (served has.0 has.1))
+        served_done s e is b.cycles t A b.hushed has.0 d f (tended_after t has.0 f has.1 hf) (subst (λ n. IsServed n d has.0 f) (needs_are t d hd) (served has.0 has.1))

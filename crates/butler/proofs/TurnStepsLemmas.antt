@@ -55,7 +55,7 @@ module _ {V : Type 0} (at : Served) (e : Edition) (b a : ButlerState V) (enters 
 
       -- what a butler has still as it was when the turn began
       abbrev Kept : ButlerState V → ButlerState V → Type 0
-      Kept x y = (y.ends.sends ≡ x.ends.sends) × (y.cycles ≡ x.cycles) × (y.sources ≡ x.sources) × (y.read_failed ≡ x.read_failed)
+      Kept x y = (y.ends.sends ≡ x.ends.sends) × (y.cycles ≡ x.cycles) × (y.sources ≡ x.sources) × (y.hushed ≡ x.hushed)
 
       pub kept : Kept b d
       kept = subst (Kept b) (sym flushes.same) (subst (Kept b) (sym follows.same) (subst (Kept b) (sym accepts.same) (refl, refl, refl, refl)))
@@ -76,7 +76,7 @@ module _ {V : Type 0} (at : Served) (e : Edition) (b a : ButlerState V) (enters 
       pub many_supplies : length d.supplies ≡ length e.session.tracks.items
       many_supplies = as_many at.session e enters.edition_of seen d flushed
 
-      pub boxes_are : AreStocked d.supplies d.drain d.ends → d.read_failed ≡ false → AllStocked e d.supplies d.ends.sends.items
+      pub boxes_are : AreStocked d.supplies d.drain d.ends → d.hushed ≡ false → AllStocked e d.supplies d.ends.sends.items
       boxes_are = all_stocked at.session e enters.edition_of seen d flushed
 
       module _ (limit : ℕ) (result : Result ℕ ReadFault) (new : ButlerState V) (goes : SendsOn outside e limit d result new) where

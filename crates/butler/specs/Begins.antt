@@ -46,6 +46,6 @@ pub record IsGiven {V : Type 0} (media : V) (sources : List OpenedSource) (cycle
   pub sources_is : b.sources ≡ record { opened = sources; held = [] }
   pub cycles_is : b.cycles ≡ cycles
   pub ends_is : b.ends ≡ ends
-  pub no_read_failed : b.read_failed ≡ false
+  pub not_hushed : b.hushed ≡ false
   pub no_write_failed : b.write_failed ≡ false
   pub no_take_failed : b.drain.files.failed ≡ []

@@ -26,8 +26,8 @@ pub record ButlerState (V : Type 0) : Type 0 where
   pub nexts : List ℕ
   -- the number of the edition that was entered last
   pub entered : ℕ
-  -- whether a read failed, and whether a write did
-  pub read_failed : Bool
+  -- whether nothing is sent any more, since a read failed or it was told so, and whether a write failed
+  pub hushed : Bool
   pub write_failed : Bool
 
 -- a butler whose ends are elsewhere
@@ -42,7 +42,7 @@ pub record Rested (V : Type 0) : Type 0 where
   pub entered : ℕ
   -- whether the ring of acknowledgements answered Closed
   pub ended : Bool
-  pub read_failed : Bool
+  pub hushed : Bool
   pub write_failed : Bool
 
 abbrev pub rested : {V : Type 0} → ButlerState V → Rested V
@@ -56,7 +56,7 @@ rested b = record {
   nexts = b.nexts;
   entered = b.entered;
   ended = b.ends.acks.ended;
-  read_failed = b.read_failed;
+  hushed = b.hushed;
   write_failed = b.write_failed;
 }
 
@@ -71,7 +71,7 @@ resumed r ends = record {
   drain = r.drain;
   nexts = r.nexts;
   entered = r.entered;
-  read_failed = r.read_failed;
+  hushed = r.hushed;
   write_failed = r.write_failed;
 }
 

@@ -36,8 +36,8 @@ pub record IsCoreOf {V : Type 0} (s : Session) (e : Edition) (old new : ButlerSt
   pub many_takes : length c.tracks ≡ length old.ends.takes.items
   pub each : (t : ℕ) (x : TrackState) (d : Sender Item) (r : Receiver TakeBlock) → slice_get c.tracks t ≡ Some x →
       slice_get old.ends.sends.items t ≡ Some d → slice_get old.ends.takes.items t ≡ Some r → IsTrackOf s x d r
-  -- no read has failed before
-  pub none_read : old.read_failed ≡ false
+  -- it sends still
+  pub none_read : old.hushed ≡ false
 
 -- The one move that the ends allow is the first that the core machine can make, or none where it can make none.
 abbrev pub TheMoveIsTheCoreMachines : Type 0 → Type 0

@@ -36,17 +36,17 @@ Counts false before now = now ≡ before
 -- What faults leave.
 pub record Fails {V : Type 0} (outside : MediaOutside V) (old : ButlerState V) (answer : Result Turn ButlerFault) (new : ButlerState V) : Type 0 where
   -- each flag is raised by its own fault, and never falls
-  pub read_failed : new.read_failed ≡ (if is_read_fault answer then true else old.read_failed)
+  pub hushed : new.hushed ≡ (if is_read_fault answer then true else old.hushed)
   pub write_failed : new.write_failed ≡ (if is_write_fault answer then true else old.write_failed)
   -- a fault is answered only where its own count rose, which it did alone
   pub reads : Counts (is_read_fault answer) (outside.read_faults old.media) (outside.read_faults new.media)
   pub writes : Counts (is_write_fault answer) (outside.write_faults old.media) (outside.write_faults new.media)
-  -- once a read has failed nothing is sent
-  pub no_more_sent : old.read_failed ≡ true → new.ends.sends ≡ old.ends.sends
+  -- once it is hushed nothing is sent
+  pub no_more_sent : old.hushed ≡ true → new.ends.sends ≡ old.ends.sends
   -- a write fault is noted by its take, of which nothing more is written; all others go on
   pub noted : NotesFault (is_write_fault answer) old.drain.files new.drain.files
-  -- a read fault is answered once; after it nothing is read either
-  pub read_once : old.read_failed ≡ true → (is_read_fault answer ≡ false) × (new.sources ≡ old.sources)
+  -- and nothing is read either, so a read fault is answered once
+  pub read_once : old.hushed ≡ true → (is_read_fault answer ≡ false) × (new.sources ≡ old.sources)
       × (total_received new.ends.takes.items ≡ total_received old.ends.takes.items → new.media ≡ old.media)
 
 -- What else a turn leaves as it was.

@@ -19,5 +19,5 @@ pub record IsFirstOf {V : Type 0} (media : V) (sources : SourcesState) (e : Edit
   pub entered : h.entered ≡ length e.edits
   -- nothing ended or failed
   pub ended : h.ended ≡ false
-  pub no_read_failed : h.read_failed ≡ false
+  pub not_hushed : h.hushed ≡ false
   pub no_write_failed : h.write_failed ≡ false

@@ -7,6 +7,7 @@ pub mod Begins
 pub mod Holds
 pub mod Turns
 pub mod Faults
+pub mod Hushed
 pub mod Takes
 pub mod Steps
 pub mod Moves

@@ -34,7 +34,7 @@ module _ {V : Type 0} (s : Session) (e : Edition) (old new : ButlerState V) wher
   due_of t d = due s e.edits old.cycles t (length e.edits) (acks_of new.ends.acks.received) (reverse (kinds d.sent))
 
   abbrev pub can_send : ℕ → Sender Item → Bool
-  can_send t d = not old.read_failed && (has_room d && is_some (due_of t d))
+  can_send t d = not old.hushed && (has_room d && is_some (due_of t d))
 
   abbrev pub can_move : Event → Bool
   can_move (Flush t) = option_map_or waits (slice_get old.ends.takes.items t) false
@@ -76,7 +76,7 @@ pub record IsAlone {V : Type 0} (old new : ButlerState V) : Type 0 where
   pub takes : (t : ℕ) (c b : Receiver TakeBlock) → slice_get old.ends.takes.items t ≡ Some c → slice_get new.ends.takes.items t ≡ Some b →
       IsPrefix c.received c.heard × IsPrefix b.received c.heard
   pub sends : (t : ℕ) (d f : Sender Item) → slice_get old.ends.sends.items t ≡ Some d → slice_get new.ends.sends.items t ≡ Some f →
-      (length f.sent ≤ d.got + d.depth) × (length f.sent ≤ 2 ^ 62) × (d.closed ≡ old.read_failed)
+      (length f.sent ≤ d.got + d.depth) × (length f.sent ≤ 2 ^ 62) × (d.closed ≡ old.hushed)
   pub many : length new.ends.takes.items ≡ length old.ends.takes.items
   pub many_sends : length new.ends.sends.items ≡ length old.ends.sends.items
 
@@ -91,5 +91,5 @@ pub record MakesMove {V : Type 0} (s : Session) (e : Edition) (old : ButlerState
 -- A turn of at most one item that nothing fails in is one move, or none, as a function of what the butler knew.
 abbrev pub ATurnOfOneIsOneMove : Type 0 → Type 0
 ATurnOfOneIsOneMove V = (s : Session) (e : Edition) (old : ButlerState V) (turn : Turn) (new : ButlerState V) → Receives old new → AllSend s e old new → Answers s e 1 old (Ok turn) new →
-    (old.read_failed ≡ true → new.ends.sends ≡ old.ends.sends) → IsAlone old new →
+    (old.hushed ≡ true → new.ends.sends ≡ old.ends.sends) → IsAlone old new →
     MakesMove s e old turn new (first_move s e old new)

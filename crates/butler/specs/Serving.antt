@@ -47,11 +47,11 @@ pub record StandsFor (s : Session) (edits : List Edit) (cycles t : ℕ) (acks : 
   -- no block was sent past the asked cycles
   pub near : a.far ≤ cycles
 
--- track t is tended: its ring is the session's, and closed exactly where a read failed
-pub record IsTended (s : Session) (edits : List Edit) (cycles t : ℕ) (acks : List Ack) (failed : Bool) (p : TrackSupply) (d : Sender Item) : Type 0 where
+-- track t is tended: its ring is the session's, and closed exactly where nothing is sent any more
+pub record IsTended (s : Session) (edits : List Edit) (cycles t : ℕ) (acks : List Ack) (hushed : Bool) (p : TrackSupply) (d : Sender Item) : Type 0 where
   pub depth : d.depth ≡ s.depth
   pub room : d.room ≡ s.block * channels_at s t
-  pub closed : d.closed ≡ failed
+  pub closed : d.closed ≡ hushed
   pub stands : StandsFor s edits cycles t acks p.progress (reverse (kinds d.sent))
   -- what was made and found no room is from an edition that was entered
   pub made : (item : Item) → HasMade p item → is_from s edits t (length edits) (kind_of item.kind) ≡ true
@@ -84,7 +84,7 @@ pub record IsServing {V : Type 0} (s : Session) (edits : List Edit) (b : ButlerS
   pub table : IsTable b.nexts (acks_of b.ends.acks.received)
   -- each track is tended
   pub tracks : (t : ℕ) (p : TrackSupply) (d : Sender Item) → slice_get b.supplies t ≡ Some p → slice_get b.ends.sends.items t ≡ Some d →
-      IsTended s edits b.cycles t (acks_of b.ends.acks.received) b.read_failed p d
+      IsTended s edits b.cycles t (acks_of b.ends.acks.received) b.hushed p d
   -- it writes the takes of the session
   pub taking : IsTakingOf s b.drain.files
 

@@ -54,12 +54,12 @@ module _ {V : Type 0} where
     pub of : IsTakingOf run.session c.drain.files
     pub media : WritesTakes outside run.session b.ends.takes.items c.ends.takes.items b.media c.media result
 
-  -- what is due was sent, unless a read failed before
+  -- what is due was sent, unless it is hushed
   pub record SendsOn (outside : MediaOutside V) (e : Edition) (most : ℕ) (b : ButlerState V) (result : Result ℕ ReadFault) (c : ButlerState V) : Type 0 where
-    pub same : c ≡ record b { media = c.media; sources = c.sources; supplies = c.supplies; ends = record b.ends { sends = c.ends.sends }; read_failed = c.read_failed }
-    pub quiet : b.read_failed ≡ true → (c ≡ b) × (result ≡ Ok 0)
-    pub busy : b.read_failed ≡ false → Goes (IsTold outside (reader_of b)) (sounds_of outside b) (pass_of e b) most b.supplies b.ends.sends.items result c.supplies c.ends.sends.items
-        × (c.read_failed ≡ is_err result)
+    pub same : c ≡ record b { media = c.media; sources = c.sources; supplies = c.supplies; ends = record b.ends { sends = c.ends.sends }; hushed = c.hushed }
+    pub quiet : b.hushed ≡ true → (c ≡ b) × (result ≡ Ok 0)
+    pub busy : b.hushed ≡ false → Goes (IsTold outside (reader_of b)) (sounds_of outside b) (pass_of e b) most b.supplies b.ends.sends.items result c.supplies c.ends.sends.items
+        × (c.hushed ≡ is_err result)
     pub at_hand : AllAtHand (pass_of e b) b.supplies → total_sent c.ends.sends.items ≡ total_sent b.ends.sends.items → (c.media ≡ b.media) × (c.sources ≡ b.sources)
     pub read : IsReadOn outside b.media c.media b.sources c.sources result
     -- a read fails only where some item was asked

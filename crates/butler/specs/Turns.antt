@@ -84,7 +84,7 @@ pub record Leaves {V : Type 0} (s : Session) (e : Edition) (acks : List Ack) (li
   pub done : n < limit → (t : ℕ) (d f : Sender Item) → slice_get old.ends.sends.items t ≡ Some d → slice_get new.ends.sends.items t ≡ Some f →
       IsDone s e.edits old.cycles t acks d f
   -- and then what is due of each track was made
-  pub ahead : n < limit → old.read_failed ≡ false → IsAhead e new
+  pub ahead : n < limit → old.hushed ≡ false → IsAhead e new
   -- nothing was sent of a track before all those before it had all
   pub in_order : (u t : ℕ) (c b d f : Sender Item) → u < t → slice_get old.ends.sends.items u ≡ Some c → slice_get new.ends.sends.items u ≡ Some b →
       slice_get old.ends.sends.items t ≡ Some d → slice_get new.ends.sends.items t ≡ Some f → length d.sent < length f.sent → IsDone s e.edits old.cycles u acks c b

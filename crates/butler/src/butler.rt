@@ -44,7 +44,8 @@ pub(crate) struct Holdings<M: Media> {
     pub(crate) entered: u32,
     /// Whether the ring of acknowledgements has answered Closed.
     pub(crate) ended: bool,
-    pub(crate) read_failed: bool,
+    /// Whether nothing is sent any more: a read failed, or it was told so.
+    pub(crate) hushed: bool,
     pub(crate) write_failed: bool,
 }
 
@@ -73,7 +74,7 @@ impl<M: Media> Model for Butler<M> {
       drain = b.holds.drain;
       nexts = b.holds.nexts.items;
       entered = b.holds.entered;
-      read_failed = b.holds.read_failed;
+      hushed = b.holds.hushed;
       write_failed = b.holds.write_failed;
     } };
 
@@ -131,7 +132,7 @@ fn first_holdings<M: Media>(
         husk: Some(husk),
         entered: e.number(),
         ended: false,
-        read_failed: false,
+        hushed: false,
         write_failed: false,
     })
 }

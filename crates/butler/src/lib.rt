@@ -6,6 +6,7 @@
 mod accepting;
 mod butler;
 mod faults;
+mod hushing;
 mod laws;
 mod meeting;
 mod resting;

@@ -1,5 +1,5 @@
 //! A butler gives its ends out and takes them back, or gives all back.
-ghost use Rattle.std.specs.Prelude.{◌≡◌, if◌then◌else◌};
+ghost use Rattle.std.specs.Prelude.{◌≡◌};
 ghost use Rattle.std.specs.List.{list_all};
 ghost use Rattle.butler.specs.ButlerState.{rested, resumed};
 ghost use Rattle.butler.specs.Serving.{AreStocked};
@@ -43,7 +43,7 @@ impl<M: Media> Model for Resting<M> {
       nexts = r.holds.nexts.items;
       entered = r.holds.entered;
       ended = r.holds.ended;
-      read_failed = r.holds.read_failed;
+      hushed = r.holds.hushed;
       write_failed = r.holds.write_failed;
     } };
 
@@ -51,17 +51,11 @@ impl<M: Media> Model for Resting<M> {
 }
 
 impl<M: Media> Butler<M> {
-    /// Whether every capture ring has answered Closed; after a WriteFault, whether the ring of
-    /// acknowledgements has.
+    /// Whether every capture ring has answered Closed.
     pub fn over(&self) -> bool
-        ensures { result ≡ (if self.now.write_failed then self.now.ends.acks.ended
-            else list_all (λ r. r.ended) self.now.ends.takes.items) }
+        ensures { result ≡ list_all (λ r. r.ended) self.now.ends.takes.items }
     {
-        if self.holds.write_failed {
-            self.holds.ended
-        } else {
-            self.holds.drain.ended()
-        }
+        self.holds.drain.ended()
     }
 
     /// Gives the media, the take files and the ends back as they stand.

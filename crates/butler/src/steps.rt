@@ -63,17 +63,17 @@ impl<M: Media> Butler<M> {
         answer
     }
 
-    /// Sends at most so many items of what is due, unless a read failed before.
+    /// Sends at most so many items of what is due, unless it is hushed.
     pub(crate) fn send(&mut self, e: &Edition, most: u32) -> Result<u32, ReadFault>
         requires seen { IsEditionState e.now }
         requires ready { IsReady (reader_of self.old) (pass_of e.now self.old) }
         requires tracks { length self.old.supplies ≡ length e.now.session.tracks.items }
-        requires stocked { self.old.read_failed ≡ false
+        requires stocked { self.old.hushed ≡ false
             → AllStocked e.now self.old.supplies self.old.ends.sends.items }
         ensures { SendsOn M.outside e.now most self.old result self.new }
     {
         let holds = &mut self.holds;
-        if holds.read_failed {
+        if holds.hushed {
             return Ok(0);
         }
         let pass = Pass {
@@ -89,7 +89,7 @@ impl<M: Media> Butler<M> {
             sends,
             most,
         );
-        holds.read_failed = answer.is_err();
+        holds.hushed = answer.is_err();
         answer
     }
 }

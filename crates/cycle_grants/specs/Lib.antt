@@ -3,4 +3,5 @@ pub mod Grants
 pub mod Allowance
 pub mod Allowed
 pub mod Granting
+pub mod Making
 pub mod Patience

@@ -5,6 +5,7 @@
 mod allowance;
 mod granting;
 mod laws;
+mod making;
 
 pub use allowance::{Allowance, AllowanceParts};
 pub use granting::{Granting, GrantingParts, NotGranted};
@@ -13,3 +14,4 @@ pub use laws::{
     grants_are_asked, looked_stands, no_entry_is_allowed_yet, one_more_is_looked_for, paces_go_on,
     the_last_grant_is_full, waited_for_stands, waited_for_with_its_entry,
 };
+pub use making::new_grants;

@@ -100,7 +100,7 @@ module _ {V I W : Type 0} (media : MediaOutside V) (inputs : SourceOutside I) (s
     opened = ap (λ (b : ButlerState V). b.sources.opened) closes.butler ∙ may.opened;
     reads = subst (λ (b : ButlerState V). IsFaultCount (media.read_faults on.media) (media.read_faults b.media) run.failed.read) (sym closes.butler) may.counts.reads;
     writes = subst (λ (b : ButlerState V). IsFaultCount (media.write_faults on.media) (media.write_faults b.media) run.failed.write) (sym closes.butler) may.counts.writes;
-    butler_reads = ap (λ (b : ButlerState V). b.read_failed) closes.butler ∙ may.counts.butler_reads;
+    butler_reads = ap (λ (b : ButlerState V). b.hushed) closes.butler ∙ may.counts.butler_reads;
     butler_writes = ap (λ (b : ButlerState V). b.write_failed) closes.butler ∙ may.counts.butler_writes;
   }
 

@@ -1,15 +1,12 @@
--- The process of a run makes a cycle: what is so of the run then, whatever was answered, and it is the letter P.
-use Rattle.std.proofs.Common.{◌≡◌, inr, ℕ, suc, List, [], ◌∷◌, ◌++◌, length, take, refl, sym, ap, subst, ◌∙◌, arith}
-use Rattle.std.specs.Prelude.{true, false, ◌||◌, not, if◌then◌else◌, map, filter, Result, Ok, Err, OnOk, OnErr}
+-- The process of a run makes a cycle: what is so of the run then, whatever was answered.
+use Rattle.std.proofs.Common.{◌≡◌, inr, ℕ, suc, List, length, take, refl, sym, ap, subst, ◌∙◌, arith}
+use Rattle.std.specs.Prelude.{true, false, Result, Ok, Err, OnOk, OnErr}
 use Rattle.std.proofs.Math.Seq.{take-append_seam}
 use Rattle.std.proofs.lemmas.Bool.{false≢true, or_right}
 use Rattle.ses_io.specs.Outside.{MediaOutside, SourceOutside, SinkOutside}
 use Rattle.ses_io.specs.Streams.{AppendsSome}
 use Rattle.session_model.specs.declared.session.Session.{Session}
 use Rattle.session_model.specs.Valid.{IsValid}
-use Rattle.machine_model.specs.Events.{ToButler, ToControl, Capture, End, AckSend, after, is_recorded}
-use Rattle.machine_model.specs.Letters.{ends_cycle, gather_moves, track_places}
-use Rattle.machine_laws.proofs.EventLists.{after_append}
 use Rattle.edition_log.specs.EditionState.{EditionState as Edition}
 use Rattle.input_blocks.specs.Rest.{StreamForm}
 use Rattle.input_blocks.specs.State.{InputState, IsCutShort, IsReadTo}
@@ -26,8 +23,6 @@ use Rattle.worker_pair.specs.declared.pair.Pair.{Pair}
 use Rattle.worker_pair.specs.Begun.{playing_at}
 use Rattle.worker_pair.specs.Plays.{Cycles, MayCycle}
 use Rattle.worker_pair.specs.Runs.{HearsInput, Rests, Runs, given_last}
-use Rattle.worker_pair.specs.Steps.{EndsAsMachine}
-use Rattle.worker_pair.specs.Tied.{IsTied}
 use Rattle.worker_pair.proofs.NowLemmas.{now_rests, now_runs}
 use Rattle.run_end.specs.declared.failures.Failures.{Failures}
 use Rattle.engine_core.specs.declared.run.Run.{Run}
@@ -37,9 +32,8 @@ use Rattle.process_cycle.specs.CutOff.{IsCutInCycle}
 use Rattle.run_end.specs.Started.{Started}
 use Rattle.engine_core.specs.Now.{now_of, AreCounted}
 use Rattle.engine_core.specs.UnderWay.{InputIsShort, IsInputOf, IsUnderWay}
-use Rattle.engine_core.specs.Letters.{CycleIsP, GatheringIsG, GathersOn}
 use Rattle.run_end.proofs.DepthLemmas.{depths_met, depths_played}
-use Rattle.engine_core.proofs.GatherLemmas.{cycles_gathered, going, input_is_fine, master_is_fine, old_runs}
+use Rattle.engine_core.proofs.GatherLemmas.{going, input_is_fine, master_is_fine, old_runs}
 use Rattle.run_end.proofs.CountedLemmas.{counted_more}
 use Rattle.engine_core.proofs.KeepLemmas.{items_met}
 
@@ -101,7 +95,7 @@ module _ {V I W : Type 0} (media : MediaOutside V) (inputs : SourceOutside I) (s
           (subst (IsFaultCount (media.write_faults on.media) (media.write_faults old.pair.butler.media)) (sym write) is.counts.writes);
       inputs_are = subst (λ (z : InputState I). IsFaultCount (inputs.faults on.input) (inputs.faults z.input) failed.input) (sym input_met) input;
       masters = subst (λ (z : MasterState W). IsFaultCount (sinks.faults on.master) (sinks.faults z.sink) failed.master) (sym master_met) master;
-      butler_reads = ap (λ (b : ButlerState V). b.read_failed) cycles.met.butler ∙ is.counts.butler_reads ∙ sym read;
+      butler_reads = ap (λ (b : ButlerState V). b.hushed) cycles.met.butler ∙ is.counts.butler_reads ∙ sym read;
       butler_writes = ap (λ (b : ButlerState V). b.write_failed) cycles.met.butler ∙ is.counts.butler_writes ∙ sym write;
     }
 
@@ -246,27 +240,3 @@ module _ {V I W : Type 0} (media : MediaOutside V) (inputs : SourceOutside I) (s
       IsUnderWay media inputs sinks on (record { pair = new; failed = failed })
   under_way_cycled valid new answer failed same cycles ok rests hears = subst (λ (f : Failures). IsUnderWay media inputs sinks on (record { pair = new; failed = f })) (sym same)
       (under_way_by valid new answer cycles ok rests hears)
-
--- ---- the core machine
-
-module _ {V I W : Type 0} (s : Session) (old gathered : Run V I W) (gathers : GathersOn old gathered) (letter : GatheringIsG s old gathered) where
-  -- where no cycle is open, it is the letter P too
-  pub cycles_shut : gathered.pair.in_cycle ≡ false → CycleIsP s old gathered
-  cycles_shut shut = λ c fine tied. let cycles = old.pair.butler.cycles in let moves = gather_moves s cycles c in let d = after s cycles c moves in let now = (letter c fine tied).0 in
-      subst (λ z. IsTied s z gathered.pair) (sym (after_append s cycles c moves (ends_cycle s d)
-      ∙ ap (λ b. after s cycles d (if b then map Capture (filter (is_recorded s d) (track_places d)) ++ End ∷ AckSend ToButler ∷ AckSend ToControl ∷ [] else [])) (now.in_cycle ∙ shut))) now
-
-  -- and where one is open, with the cycle,
-  open_by : gathered.pair.in_cycle ≡ true → (new : Pair V I W) (answer : Result (Unit {0}) CycleFault) → EndsAsMachine s gathered.pair answer new →
-      CycleIsP s old (record { pair = new; failed = after_cycle answer gathered.failed })
-  open_by opens new (Ok x) ends = λ c fine tied. let cycles = old.pair.butler.cycles in let moves = gather_moves s cycles c in let d = after s cycles c moves in let now = letter c fine tied in
-      subst (λ z. IsTied s z new) (sym (after_append s cycles c moves (ends_cycle s d)))
-      (subst (λ n. IsTied s (after s n d (ends_cycle s d)) new) (cycles_gathered old gathered gathers) (ends d now.0 (now.1 (now.0.in_cycle ∙ opens))))
-  open_by opens new (Err InputFault) ends = λ c fine tied. absurd (false≢true fine)
-  open_by opens new (Err MasterFault) ends = λ c fine tied.
-      absurd (false≢true (sym (ap (λ b. not (b || gathered.failed.read || gathered.failed.write)) (or_right gathered.failed.input true refl)) ∙ fine))
-
-  -- by what failed of it
-  pub cycles_open : gathered.pair.in_cycle ≡ true → (new : Pair V I W) (answer : Result (Unit {0}) CycleFault) (failed : Failures) → failed ≡ after_cycle answer gathered.failed →
-      EndsAsMachine s gathered.pair answer new → CycleIsP s old (record { pair = new; failed = failed })
-  cycles_open opens new answer failed same ends = subst (λ (f : Failures). CycleIsP s old (record { pair = new; failed = f })) (sym same) (open_by opens new answer ends)

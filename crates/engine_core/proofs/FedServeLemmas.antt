@@ -28,6 +28,7 @@ use Rattle.run_end.specs.Started.{Started}
 use Rattle.engine_core.specs.UnderWay.{IsUnderWay}
 use Rattle.engine_core.proofs.EnterLemmas.{either}
 use Rattle.engine_core.proofs.FedCycleLemmas.{HasPlayed, cycle_plays, read_cycled}
+use Rattle.engine_core.proofs.FedIdleLemmas.{idle_is_ready}
 use Rattle.engine_core.proofs.FedLookLemmas as look
 use Rattle.engine_core.proofs.FedTurnLemmas as turn
 use Rattle.engine_core.proofs.SerialCycleLemmas.{may_enter_now}
@@ -70,11 +71,11 @@ module _ {V I W : Type 0} (media : MediaOutside V) (inputs : SourceOutside I) (s
         fed = λ fine newest fed heard. let mid = so_far.fed (read_turned fine) newest fed heard in (
           turn.newest_same media inputs sinks on old turned idle is now turns fine mid.0 mid.1 mid.2,
           turn.turn_feeds media inputs sinks on old turned idle is now turns fine mid.0 mid.1 mid.2,
-          (turn.idle_is_ready media inputs sinks on old turned idle is now turns fine mid.0 mid.1 mid.2 e).1,
+          (idle_is_ready media inputs sinks on old turned idle is now turns fine mid.0 mid.1 mid.2 e).1,
         );
       };
       ready = λ fine newest fed heard. let mid = so_far.fed (read_turned fine) newest fed heard in
-          let all = turn.idle_is_ready media inputs sinks on old turned idle is now turns fine mid.0 mid.1 mid.2 e in (all.0, all.2);
+          let all = idle_is_ready media inputs sinks on old turned idle is now turns fine mid.0 mid.1 mid.2 e in (all.0, all.2);
     }
 
   -- ---- the process enters

@@ -70,7 +70,7 @@ module _ {V I W : Type 0} where
         rests = runs_rest media inputs sinks (now_of on looked_run) new runs_now;
         runs = λ goes. runs_now;
         shut = λ stopped. absurd (false≢true (sym going ∙ stopped));
-        counts = counts_stand media inputs sinks on old looked_run refl (ap (λ (b : ButlerState V). b.media) looks.met.butler) (ap (λ (b : ButlerState V). b.read_failed) looks.met.butler)
+        counts = counts_stand media inputs sinks on old looked_run refl (ap (λ (b : ButlerState V). b.media) looks.met.butler) (ap (λ (b : ButlerState V). b.hushed) looks.met.butler)
             (ap (λ (b : ButlerState V). b.write_failed) looks.met.butler)
             (ap (λ (z : ProcessState I W). z.input.input) looks.met.process_is ∙ ap (λ (z : ProcessState I W). z.input.input) looks.keeps.same)
             (ap (λ (z : ProcessState I W). z.master.sink) looks.met.process_is ∙ ap (λ (z : ProcessState I W). z.master.sink) looks.keeps.same) is.counts;

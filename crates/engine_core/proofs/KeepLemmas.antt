@@ -91,7 +91,7 @@ module _ {V I W : Type 0} where
 
   -- the counts, where no media, input or master was called since
   pub counts_stand : (media : MediaOutside V) (inputs : SourceOutside I) (sinks : SinkOutside W) (on : Started V I W) (r q : Run V I W) → q.failed ≡ r.failed →
-      q.pair.butler.media ≡ r.pair.butler.media → q.pair.butler.read_failed ≡ r.pair.butler.read_failed → q.pair.butler.write_failed ≡ r.pair.butler.write_failed →
+      q.pair.butler.media ≡ r.pair.butler.media → q.pair.butler.hushed ≡ r.pair.butler.hushed → q.pair.butler.write_failed ≡ r.pair.butler.write_failed →
       q.pair.process.input.input ≡ r.pair.process.input.input → q.pair.process.master.sink ≡ r.pair.process.master.sink → AreCounted media inputs sinks on r → AreCounted media inputs sinks on q
   counts_stand media inputs sinks on r q failed butler read write input sink c = record {
     reads = subst (λ f. IsFaultCount (media.read_faults on.media) (media.read_faults q.pair.butler.media) f.read) (sym failed)

@@ -1,16 +1,19 @@
 -- Why a run on one thread does what it says.
 pub mod KeepLemmas
 pub mod TurnLemmas
-pub mod MasterLemmas
+pub mod MasterHeadLemmas
+pub mod MasterEndLemmas
 pub mod EnterLemmas
 pub mod GatherLemmas
 pub mod CycleLemmas
+pub mod CoreCycleLemmas
 pub mod QuitLemmas
 pub mod PublishLemmas
 pub mod CarryLemmas
 pub mod LetterLemmas
 pub mod LawfulLemmas
 pub mod GrowLemmas
+pub mod ShownLemmas
 pub mod GoingLemmas
 pub mod EventLemmas
 pub mod DrainLemmas
@@ -24,7 +27,9 @@ pub mod SerialCycleLemmas
 pub mod LostLemmas
 pub mod FedLists
 pub mod FedTurnLemmas
+pub mod FedIdleLemmas
 pub mod FedLookLemmas
+pub mod FedEntryLemmas
 pub mod FedCycleLemmas
 pub mod FedServeLemmas
 pub mod FedBeginLemmas

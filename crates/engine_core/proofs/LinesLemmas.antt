@@ -43,7 +43,7 @@ use Rattle.engine_core.specs.Events.{Course}
 use Rattle.engine_core.specs.Going.{Follows}
 use Rattle.engine_core.specs.Opening.{InRest}
 use Rattle.engine_core.specs.Shows.{edits_of, made_of}
-use Rattle.engine_core.proofs.GoingLemmas.{seen_of}
+use Rattle.engine_core.proofs.ShownLemmas.{seen_of}
 use Rattle.engine_core.specs.MachineEnds.{DrainsTo, EndsAt}
 use Rattle.run_world.specs.declared.finished.Finished.{Finished}
 use Rattle.engine_core.specs.Machine.{IsPlain, IsTheMachines}

@@ -30,7 +30,8 @@ use Rattle.engine_core.specs.Going.{MayGoOn}
 use Rattle.engine_core.specs.Opening.{Given, InRest, Opening}
 use Rattle.engine_core.specs.Shows.{edits_of, made_of, shows}
 use Rattle.engine_core.specs.WentOn.{WentOn}
-use Rattle.engine_core.proofs.GoingLemmas.{Goes, control_goes, does, seen_of, worker_goes}
+use Rattle.engine_core.proofs.GoingLemmas.{Goes, control_goes, does, worker_goes}
+use Rattle.engine_core.proofs.ShownLemmas.{seen_of}
 use Rattle.engine_core.specs.Fed.{PlaysPlain}
 use Rattle.engine_core.specs.Lost.{LosesNone}
 use Rattle.engine_core.specs.Serial.{PlaysNewest}

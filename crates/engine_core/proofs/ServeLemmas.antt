@@ -113,8 +113,8 @@ module _ {V I W : Type 0} where
       received = same_in_all (λ (x : Receiver TakeBlock). length x.received) p.butler.ends.takes.items q.butler.ends.takes.items looks.met.ends.takes.receivers
           (received_stands looks.process.ends.takes.items p.butler.ends.takes.items q.process.ends.takes.items q.butler.ends.takes.items captures looks.met.ends.takes)
 
-      failed : q.butler.read_failed ≡ p.butler.read_failed
-      failed = ap (λ (b : ButlerState V). b.read_failed) looks.met.butler
+      failed : q.butler.hushed ≡ p.butler.hushed
+      failed = ap (λ (b : ButlerState V). b.hushed) looks.met.butler
 
   -- and so does the process where it enters
   pub workers_stand : (old new : Run V I W) → EntersOn old new → (new.pair.process ≡ old.pair.process) × (new.pair.butler ≡ old.pair.butler)

@@ -83,7 +83,7 @@ module _ {V I W : Type 0} (media : MediaOutside V) (inputs : SourceOutside I) (s
     masters = subst (λ z. IsFaultCount (sinks.faults on.master) (sinks.faults new.pair.process.master.sink) z) (sym master_failed)
         (counted_still (sinks.faults on.master) (sinks.faults old.pair.process.master.sink) (sinks.faults new.pair.process.master.sink) old.failed.master
         (ap (λ (z : Pair V I W). sinks.faults z.process.master.sink) only) under.counts.masters);
-    butler_reads = read_known answer old.failed old.pair.butler.read_failed new.pair.butler.read_failed (ap (λ (b : ButlerState V). b.read_failed) butler_is ∙ turns.turn.fails.read_failed) under.counts.butler_reads
+    butler_reads = read_known answer old.failed old.pair.butler.hushed new.pair.butler.hushed (ap (λ (b : ButlerState V). b.hushed) butler_is ∙ turns.turn.fails.hushed) under.counts.butler_reads
         ∙ sym (ap (λ (f : Failures). f.read) failed);
     butler_writes = write_known answer old.failed old.pair.butler.write_failed new.pair.butler.write_failed (ap (λ (b : ButlerState V). b.write_failed) butler_is ∙ turns.turn.fails.write_failed)
         under.counts.butler_writes ∙ sym (ap (λ (f : Failures). f.write) failed);

@@ -23,5 +23,5 @@ module _ {V I W : Type 0} where
     pub inputs_are : IsFaultCount (inputs.faults on.input) (inputs.faults r.pair.process.input.input) r.failed.input
     pub masters : IsFaultCount (sinks.faults on.master) (sinks.faults r.pair.process.master.sink) r.failed.master
     -- and butler and process know of it
-    pub butler_reads : r.pair.butler.read_failed ≡ r.failed.read
+    pub butler_reads : r.pair.butler.hushed ≡ r.failed.read
     pub butler_writes : r.pair.butler.write_failed ≡ r.failed.write

@@ -30,7 +30,7 @@ module _ {V I W : Type 0} where
     pub stream_is : p.process.input.stream ≡ on.stream
     pub master_is : p.process.master.sink ≡ on.master
     pub held : sinks.held on.master ≡ on.begun.before
-    pub none_read : p.butler.read_failed ≡ false
+    pub none_read : p.butler.hushed ≡ false
     pub none_written : p.butler.write_failed ≡ false
 
   -- This is the input of the run: its stream is the one that was told of, in blocks of the session's frames.

@@ -14,7 +14,6 @@ use std::alloc::Global;
 use worker_pair::{Pair, Start};
 
 /// What control is given of a run: where its lines come from, where its replies go, and its script, where it says one.
-#[derive(Drop)]
 pub(crate) struct Spoken<C, O> {
     pub(crate) lines: C,
     pub(crate) out: O,
@@ -25,9 +24,10 @@ pub(crate) struct Spoken<C, O> {
 fn control<C: Source, O: Sink>(spoken: Spoken<C, O>) -> Control<C, O>
     ensures { result ≡ control_spoken spoken }
 {
-    match spoken.script {
-        Some(script) => Control::scripted(spoken.lines, spoken.out, script.from),
-        None => Control::reading(spoken.lines, spoken.out),
+    let Spoken { lines, out, script } = spoken;
+    match script {
+        Some(script) => Control::scripted(lines, out, script.from),
+        None => Control::reading(lines, out),
     }
 }
 
@@ -65,12 +65,17 @@ fn together<M, I, C, W, O>(given: (M, I, W), spoken: Spoken<C, O>) -> World<M, I
     ensures { result ≡ world_of given spoken }
 {
     let (media, input, master) = given;
+    let Spoken {
+        lines,
+        out,
+        script: _,
+    } = spoken;
     World {
         media,
         input,
-        control: spoken.lines,
+        control: lines,
         master,
-        out: spoken.out,
+        out,
     }
 }
 
@@ -88,10 +93,10 @@ pub(crate) fn begin<M: Media, I: Source, C: Source, W: Sink, O: Sink>(
     ensures back { IfErr result (λ w. w ≡ o.world) }
 {
     let tracks = o.edition.session().tracks.len() as u32;
-    let Ok(lists) = RunLists::new(alloc, tracks) else {
-        return Err(o.world);
-    };
     let (start, spoken) = apart(o);
+    let Ok(lists) = RunLists::new(alloc, tracks) else {
+        return Err(together(start.give_back(), spoken));
+    };
     match Pair::new(alloc, start) {
         Ok(pair) => {
             let engine = Engine {

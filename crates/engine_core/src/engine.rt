@@ -13,7 +13,6 @@ use cycle_journal::Entry;
 use ses_io::{Media, Sink, Source};
 
 /// A run on one thread, and its control.
-#[derive(Drop)]
 pub struct Engine<M: Media, I: Source, C: Source, W: Sink, O: Sink> {
     pub run: Run<M, I, W>,
     pub control: Control<C, O>,

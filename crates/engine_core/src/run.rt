@@ -7,7 +7,6 @@ use ses_io::{Media, Sink, Source};
 use worker_pair::Pair;
 
 /// A run on one thread.
-#[derive(Drop)]
 pub struct Run<M: Media, I: Source, W: Sink> {
     pub pair: Pair<M, I, W>,
     pub failed: Failures,

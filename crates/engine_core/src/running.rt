@@ -29,24 +29,34 @@ fn finished<M, I, C, W, O>(
 ) -> Finished<M, I, C, W, O>
     ensures { result ≡ finished_of ended control }
 {
+    let RunEnd {
+        media,
+        input,
+        master,
+        journal,
+        edits,
+        rings,
+        acks,
+        failed,
+    } = ended;
     Finished {
         world: World {
-            media: ended.media,
-            input: ended.input,
+            media,
+            input,
             control: control.source,
-            master: ended.master,
+            master,
             out: control.out,
         },
-        journal: ended.journal,
-        edits: ended.edits,
-        rings: ended.rings,
-        acks: ended.acks,
+        journal,
+        edits,
+        rings,
+        acks,
         grants: None,
         faults: Faults {
-            input: ended.failed.input,
-            master: ended.failed.master,
-            read: ended.failed.read,
-            write: ended.failed.write,
+            input: failed.input,
+            master: failed.master,
+            read: failed.read,
+            write: failed.write,
             control: control.read_failed,
             long: control.long,
             out: control.write_failed,

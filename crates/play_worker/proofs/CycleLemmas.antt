@@ -167,6 +167,11 @@ module _ {I W : Type 0} (inputs : SourceOutside I) (at : Playing) (patience : �
 
 -- ---- a cycle, made or not
 
+-- what follows where it was
+pub where_made : {E : Type 0} (A B : Type 0) (result : Result (Unit {0}) E) → A → OnOk result (A → B) → OnOk result B
+where_made A B (Ok x) a f = f a
+where_made A B (Err why) a f = tt
+
 module _ {I W : Type 0} (inputs : SourceOutside I) (at : Playing) (patience : ℕ) (e : Edition) (p0 p1 p2 : ProcessState I W) where
   -- after a fault nothing else has changed
   stopped_keeps : HasStopped p1 p2 → IsPatient patience (entered e.edits at) p1 → IsPatient patience (entered e.edits at) p2

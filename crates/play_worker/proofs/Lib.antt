@@ -1,5 +1,9 @@
--- Why looks are made with patience, and why the thread plays on.
+-- Why patience and allowances are kept from cycle to cycle, and why the process's thread leaves what it promises.
 pub mod PatientLemmas
-pub mod CycleLemmas
-pub mod PlaysLemmas
 pub mod KeptLemmas
+pub mod CycleLemmas
+pub mod FaultLemmas
+pub mod PlaysLemmas
+pub mod EndLemmas
+pub mod MasterEndLemmas
+pub mod LeaveLemmas

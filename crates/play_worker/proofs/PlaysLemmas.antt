@@ -14,6 +14,8 @@ use Rattle.process_cycle.specs.declared.fault.CycleFault.{CycleFault}
 use Rattle.process_cycle.specs.ProcessState.{Playing, ProcessState, entered, entries_of}
 use Rattle.process_cycle.specs.Playing.{IsPlaying}
 use Rattle.process_cycle.specs.Promised.{IsMastered, Promises}
+use Rattle.input_blocks.specs.Rest.{rest_sound}
+use Rattle.process_cycle.specs.Captured.{Hears}
 use Rattle.process_cycle.specs.Cycles.{HasStopped, MakesEntry}
 use Rattle.route_lists.specs.Lists.{IsReaderOf, Reading}
 use Rattle.ses_io.specs.FixedList.{Listed}
@@ -29,7 +31,8 @@ use Rattle.play_worker.specs.Patient.{IsPatient}
 use Rattle.play_worker.specs.Kept.{KeepsRun}
 use Rattle.play_worker.proofs.PatientLemmas.{journal_kept}
 use Rattle.play_worker.proofs.KeptLemmas.{cycle_keeps_run, looks_keep_run, run_refl, run_trans}
-use Rattle.play_worker.specs.Plays.{MayCycle, Plays, PlaysAt, RestsAt, Stops, at_now, given_last, made_by}
+use Rattle.play_worker.proofs.FaultLemmas.{made_unfailed, reads_stream}
+use Rattle.play_worker.specs.Plays.{IsUnfailed, MayCycle, Plays, PlaysAt, RestsAt, Stops, at_now, given_last, made_by}
 
 module _ {I W : Type 0} (inputs : SourceOutside I) (sinks : SinkOutside W) (at : Playing) (patience : ℕ) (w : PlayWorker I W) (plays : PlaysAt patience inputs sinks at w) where
   -- an allowance was waited for
@@ -37,7 +40,7 @@ module _ {I W : Type 0} (inputs : SourceOutside I) (sinks : SinkOutside W) (at :
   awaits made b is awaited =
       let long : length (seen_entries w.process.journal.items) ≡ made_by w = length-map w.process.journal.items seen_entry in
       let both = awaiting_keeps_allowances patience (seen_entries w.process.journal.items) w.grants b plays.allowed (subst (λ n. Awaits patience n w.grants b) (is ∙ sym long) awaited) in (
-        record { reader_of = plays.reader_of; begins = plays.begins; playing = plays.playing; mastered = plays.mastered; patient = plays.patient; allowed = both.0 },
+        record { reader_of = plays.reader_of; begins = plays.begins; playing = plays.playing; mastered = plays.mastered; patient = plays.patient; allowed = both.0; unfailed = plays.unfailed },
         subst (λ n. MayMake n b) long both.1,
       )
 
@@ -50,6 +53,7 @@ module _ {I W : Type 0} (inputs : SourceOutside I) (sinks : SinkOutside W) (at :
     mastered = plays.mastered;
     patient = plays.patient;
     allowed = plays.allowed;
+    unfailed = plays.unfailed;
   }
 
   -- the edits in which it looked last are those that its number says
@@ -74,7 +78,7 @@ module _ {I W : Type 0} (inputs : SourceOutside I) (sinks : SinkOutside W) (at :
 
     -- its rings and what was noted stand
     pub keeps_run : KeepsRun w.process p
-    keeps_run = run_trans w.process cycle.looked p (looks_keep_run w.process cycle.looked (cycle.playing.plays ∙ sym plays.playing.plays) cycle.rings cycle.keeps)
+    keeps_run = run_trans w.process cycle.looked p (looks_keep_run w.process cycle.looked (cycle.may.playing.plays ∙ sym plays.playing.plays) cycle.rings cycle.keeps)
         (cycle_keeps_run inputs (entered edits at) w.reader.edition cycle.looked p result cycle.made cycle.fault cycle.reads)
 
     -- where its number is that of the edition
@@ -96,22 +100,32 @@ module _ {I W : Type 0} (inputs : SourceOutside I) (sinks : SinkOutside W) (at :
       one_more : made_by after ≡ made_by w + 1
       one_more = ap (λ j. length j.items) made.noted ∙ length-append cycle.looked.journal.items (made.made ∷ []) ∙ ap (λ j. length j.items + 1) kept
 
-      plays_after : IsPlaying inputs (entered edits at) p → IsMastered sinks (entered edits at) p → PlaysAt patience inputs sinks (entered (given_last after) at) after
-      plays_after playing mastered = subst (λ es. PlaysAt patience inputs sinks (entered es at) after) (sym (numbered playing.entered)) (record {
+      plays_after : IsPlaying inputs (entered edits at) p → IsMastered sinks (entered edits at) p → IsUnfailed inputs sinks w.told p → PlaysAt patience inputs sinks (entered (given_last after) at) after
+      plays_after playing mastered unfailed = subst (λ es. PlaysAt patience inputs sinks (entered es at) after) (sym (numbered playing.entered)) (record {
         reader_of = plays.reader_of;
         begins = prefix_refl edits;
         playing = playing;
         mastered = mastered;
         patient = patient;
         allowed = allowed_after;
+        unfailed = unfailed;
       })
 
     -- after a fault
-    rests_after : HasStopped cycle.looked p → RestsAt patience (entered (given_last after) at) after
-    rests_after stopped = subst (λ es. RestsAt patience (entered es at) after) (sym (numbered (ap (λ (q : ProcessState I W). q.entered) stopped ∙ cycle.playing.entered))) (record {
+    looked_in : HasStopped cycle.looked p → given_last after ≡ edits
+    looked_in stopped = numbered (ap (λ (q : ProcessState I W). q.entered) stopped ∙ cycle.may.playing.entered)
+
+    rests_after : HasStopped cycle.looked p → RestsAt patience inputs (entered (given_last after) at) after
+    rests_after stopped = subst (λ es. RestsAt patience inputs (entered es at) after) (sym (looked_in stopped)) (record {
       reader_of = plays.reader_of;
       begins = prefix_refl edits;
-      promises = subst (λ (q : ProcessState I W). Promises (entered edits at) (entries_of q) q.ends) (sym stopped) cycle.playing.promises;
+      numbered = ap (λ (q : ProcessState I W). q.entered) stopped ∙ cycle.may.playing.entered;
+      promises = subst (λ (q : ProcessState I W). Promises (entered edits at) (entries_of q) q.ends) (sym stopped) cycle.may.playing.promises;
+      hears = subst (λ (q : ProcessState I W). Hears inputs.tells (rest_sound p.input.stream at.start) at.session (entries_of q) q.ends.takes.items) (sym stopped)
+          (subst (λ s. Hears inputs.tells (rest_sound s at.start) at.session (entries_of cycle.looked) cycle.looked.ends.takes.items) (sym (reads_stream inputs (entered edits at) cycle.looked p result cycle.reads))
+          cycle.may.playing.hears);
+      master_of = cycle.master_of;
+      cycles = subst (λ (q : ProcessState I W). q.journal.room ≤ 100000) (sym stopped) cycle.may.playing.cycles;
       patient = patient;
       allowed = subst (λ j. KeepsAllowances patience (seen_entries j.items) w.grants) (sym (ap (λ (q : ProcessState I W). q.journal) stopped ∙ kept)) plays.allowed;
     })
@@ -122,7 +136,8 @@ pub made_after : {I W : Type 0} (inputs : SourceOutside I) (sinks : SinkOutside 
     OnOk result (IsPlaying inputs (entered w.reader.edition.edits at) p) → OnOk result (IsMastered sinks (entered w.reader.edition.edits at) p) →
     PlaysAt patience inputs sinks (entered (given_last (record w { process = p })) at) (record w { process = p }) × (made_by (record w { process = p }) ≡ made_by w + 1)
 made_after inputs sinks at patience w plays p may (Ok x) u is cycle patient playing mastered = (
-  plays_after inputs sinks at patience w plays p may (Ok x) cycle patient cycle.made playing mastered,
+  plays_after inputs sinks at patience w plays p may (Ok x) cycle patient cycle.made playing mastered
+      (made_unfailed inputs sinks w.told (entered w.reader.edition.edits at) w.process cycle.looked p cycle.keeps plays.unfailed cycle.may.playing cycle.reads cycle.writes.cause.kept),
   one_more inputs sinks at patience w plays p may (Ok x) cycle patient cycle.made,
 )
 made_after inputs sinks at patience w plays p may (Err why) u is cycle patient playing mastered = absurd (err_isnt_ok is)
@@ -132,7 +147,7 @@ made_after inputs sinks at patience w plays p may (Err why) u is cycle patient p
 
 pub stopped_after : {I W : Type 0} (inputs : SourceOutside I) (sinks : SinkOutside W) (at : Playing) (patience : ℕ) (w : PlayWorker I W) → PlaysAt patience inputs sinks at w → (p : ProcessState I W) → MayCycle w →
     (result : Result (Unit {0}) CycleFault) (why : CycleFault) → result ≡ Err why → PlaysCycle inputs sinks at patience w.reader.edition w.process result p → IsPatient patience (entered w.reader.edition.edits at) p →
-    RestsAt patience (entered (given_last (record w { process = p })) at) (record w { process = p })
+    RestsAt patience inputs (entered (given_last (record w { process = p })) at) (record w { process = p })
 stopped_after inputs sinks at patience w plays p may (Err x) why is cycle patient = rests_after inputs sinks at patience w plays p may (Err x) cycle patient cycle.fault
 stopped_after inputs sinks at patience w plays p may (Ok x) why is cycle patient = absurd (ok_isnt_err is)
   where
@@ -149,7 +164,7 @@ module _ {I W : Type 0} (inputs : SourceOutside I) (sinks : SinkOutside W) (at :
       (subst (λ (x : Edition). IsPatient patience (entered x.edits at) p) same patient) (subst (λ (x : Edition). OnOk result (IsPlaying inputs (entered x.edits at) p)) same playing)
       (subst (λ (x : Edition). OnOk result (IsMastered sinks (entered x.edits at) p)) same mastered)
 
-  pub stopped_in : (why : CycleFault) → result ≡ Err why → RestsAt patience (entered (given_last (record w { process = p })) at) (record w { process = p })
+  pub stopped_in : (why : CycleFault) → result ≡ Err why → RestsAt patience inputs (entered (given_last (record w { process = p })) at) (record w { process = p })
   stopped_in why is = stopped_after inputs sinks at patience w plays p may result why is (subst (λ (x : Edition). PlaysCycle inputs sinks at patience x w.process result p) same cycle)
       (subst (λ (x : Edition). IsPatient patience (entered x.edits at) p) same patient)
 
@@ -157,11 +172,22 @@ module _ {I W : Type 0} (inputs : SourceOutside I) (sinks : SinkOutside W) (at :
   keeps_in = keeps_run inputs sinks at patience w plays p may result (subst (λ (x : Edition). PlaysCycle inputs sinks at patience x w.process result p) same cycle)
       (subst (λ (x : Edition). IsPatient patience (entered x.edits at) p) same patient)
 
-  pub stops_in : (why : CycleFault) → result ≡ Err why → Stops patience inputs sinks why (record w { process = p })
+  -- it looked last in that edition
+  looked_last : (why : CycleFault) (r : Result (Unit {0}) CycleFault) → r ≡ Err why → PlaysCycle inputs sinks at patience w.reader.edition w.process r p → IsPatient patience (entered w.reader.edition.edits at) p →
+      given_last (record w { process = p }) ≡ w.reader.edition.edits
+  looked_last why (Err x) is did kept = looked_in inputs sinks at patience w plays p may (Err x) did kept did.fault
+  looked_last why (Ok x) is did kept = absurd (ok_isnt_err is)
+    where
+      ok_isnt_err : Ok x ≡ Err why → ⊥
+      ok_isnt_err e = cc
+
+  pub stops_in : (why : CycleFault) → result ≡ Err why → Stops patience inputs sinks (entered (given_last (record w { process = p })) at) why (record w { process = p })
   stops_in why is = record {
     before = w;
-    at = at;
+    was = at.edits;
     plays = plays;
+    may = may;
+    given = sym (looked_last why result is (subst (λ (x : Edition). PlaysCycle inputs sinks at patience x w.process result p) same cycle) (subst (λ (x : Edition). IsPatient patience (entered x.edits at) p) same patient));
     cycle = subst (λ (r : Result (Unit {0}) CycleFault). PlaysCycle inputs sinks at patience w.reader.edition w.process r p) is
         (subst (λ (x : Edition). PlaysCycle inputs sinks at patience x w.process result p) same cycle);
     same = refl;

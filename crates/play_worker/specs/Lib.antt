@@ -3,3 +3,4 @@ pub mod Patient
 pub mod Cycle
 pub mod Plays
 pub mod Kept
+pub mod Leaves

@@ -10,6 +10,7 @@ ghost use Rattle.play_worker.specs.Cycle.{PlaysCycle};
 use crate::looks::look_up;
 use edition_log::Edition;
 use process_cycle::{CycleFault, Process};
+use run_bells::Bells;
 use ses_io::{Sink, Source};
 
 /// The looks of a cycle in this edition, at most so many, and the cycle. After a fault no entry is made. It takes no memory, no
@@ -18,6 +19,7 @@ pub fn play_cycle<I: Source, W: Sink>(
     process: &mut Process<I, W>,
     e: &Edition,
     patience: u64,
+    bells: &Bells,
 ) -> Result<(), CycleFault>
     ghost at: { Playing }
     requires some { 1 ≤ patience }
@@ -31,6 +33,8 @@ pub fn play_cycle<I: Source, W: Sink>(
     ensures mastered { OnOk result (IsMastered W.outside (entered e.now.edits at) process.new) }
     ensures patient { IsPatient patience (entered e.now.edits at) process.new }
 {
-    look_up(process, e, patience);
+    // by which the session is valid that the edition has
+    let _session = e.session();
+    look_up(process, e, patience, bells);
     process.cycle(e)
 }

@@ -4,10 +4,12 @@
 
 mod cycle;
 mod looks;
+mod playing;
 mod told;
 mod worker;
 
 pub use cycle::play_cycle;
 pub use looks::look_up;
+pub use playing::{Played, play};
 pub use told::Told;
 pub use worker::{Ended, PlayWorker};

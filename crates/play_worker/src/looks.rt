@@ -9,6 +9,7 @@ ghost use Rattle.play_worker.specs.Patient.{AllGoOn, LooksPatiently};
 
 use edition_log::Edition;
 use process_cycle::{Look, Process};
+use run_bells::Bells;
 use ses_io::{Sink, Source};
 use std::thread;
 
@@ -23,8 +24,13 @@ fn is_ready(look: Look) -> bool
 }
 
 /// Looks at each track in an edition that goes on from the one given last, and again while a piece isn't there, so many
-/// times at most in all; a closed ring ends this at once. It takes no memory, no lock and no wait.
-pub fn look_up<I: Source, W: Sink>(process: &mut Process<I, W>, e: &Edition, patience: u64)
+/// times at most in all, and the butler is woken before each; a closed ring ends this at once. It takes no memory, no lock and no wait.
+pub fn look_up<I: Source, W: Sink>(
+    process: &mut Process<I, W>,
+    e: &Edition,
+    patience: u64,
+    bells: &Bells,
+)
     ghost at: { Playing }
     requires some { 1 ≤ patience }
     requires may { MayLook I.outside at process.old e.now }
@@ -44,6 +50,7 @@ pub fn look_up<I: Source, W: Sink>(process: &mut Process<I, W>, e: &Edition, pat
         if process.closed() {
             return;
         }
+        bells.wake_butler();
         thread::yield_now();
         look = again(process, e);
     }

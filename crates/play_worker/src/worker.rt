@@ -15,6 +15,7 @@ use crate::told::Told;
 use cycle_grants::Allowance;
 use process_cycle::{CycleFault, Process};
 use route_lists::ListReader;
+use run_bells::Bells;
 use ses_io::{Sink, Source};
 
 /// The process with its reader and its end of the grants.
@@ -96,6 +97,7 @@ fn newest<I: Source, W: Sink>(w: PlayWorker<I, W>) -> Result<PlayWorker<I, W>, P
 fn in_edition<I: Source, W: Sink>(
     w: PlayWorker<I, W>,
     patience: u64,
+    bells: &Bells,
 ) -> (PlayWorker<I, W>, Option<Ended>)
     ghost at: { Playing }
     requires some { 1 ≤ patience }
@@ -122,7 +124,7 @@ fn in_edition<I: Source, W: Sink>(
         };
         return (w, Some(Ended::Quit));
     }
-    let answer = play_cycle(&mut process, reader.edition(), patience);
+    let answer = play_cycle(&mut process, reader.edition(), patience, bells);
     let w = PlayWorker {
         reader,
         process,
@@ -136,7 +138,11 @@ fn in_edition<I: Source, W: Sink>(
 }
 
 // One cycle in the newest edition, once it is allowed.
-fn one<I: Source, W: Sink>(w: PlayWorker<I, W>, patience: u64) -> (PlayWorker<I, W>, Option<Ended>)
+fn one<I: Source, W: Sink>(
+    w: PlayWorker<I, W>,
+    patience: u64,
+    bells: &Bells,
+) -> (PlayWorker<I, W>, Option<Ended>)
     ghost at: { Playing }
     requires some { 1 ≤ patience }
     requires plays { PlaysAt patience I.outside W.outside at w }
@@ -152,7 +158,7 @@ fn one<I: Source, W: Sink>(w: PlayWorker<I, W>, patience: u64) -> (PlayWorker<I,
         return (w, Some(Ended::All));
     }
     match newest(awaited(w, patience)) {
-        Ok(w) => in_edition(w, patience),
+        Ok(w) => in_edition(w, patience, bells),
         Err(w) => (w, Some(Ended::Refused)),
     }
 }
@@ -160,7 +166,11 @@ fn one<I: Source, W: Sink>(w: PlayWorker<I, W>, patience: u64) -> (PlayWorker<I,
 /// Cycles, each once it is allowed, in the newest edition, with looks at most so many; until all are made, the edition that is
 /// entered has quit, the reader is refused, or the input or the master fails. It takes no memory but what the reader's
 /// catching up takes, no lock and no wait, and returns.
-pub fn cycles<I: Source, W: Sink>(w: PlayWorker<I, W>, patience: u64) -> (PlayWorker<I, W>, Ended)
+pub(crate) fn cycles<I: Source, W: Sink>(
+    w: PlayWorker<I, W>,
+    patience: u64,
+    bells: &Bells,
+) -> (PlayWorker<I, W>, Ended)
     requires some { 1 ≤ patience }
     requires plays { Plays patience I.outside W.outside w }
     ensures leaves { StepLeaves patience I.outside W.outside
@@ -172,10 +182,11 @@ pub fn cycles<I: Source, W: Sink>(w: PlayWorker<I, W>, patience: u64) -> (PlayWo
 {
     let mut w = w;
     loop {
-        let (next, step) = one(w, patience);
+        let (next, step) = one(w, patience, bells);
         w = next;
         if let Some(end) = step {
             return (w, end);
         }
+        bells.entered(w.process.journal().entries().len() as u32);
     }
 }

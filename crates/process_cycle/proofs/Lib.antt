@@ -9,6 +9,7 @@ pub mod PromiseLemmas
 pub mod MeetPromiseLemmas
 pub mod HearsLemmas
 pub mod MasterLemmas
+pub mod EndLemmas
 mod PutLemmas
 mod BeginLemmas
 mod CapturingLemmas

@@ -12,5 +12,5 @@ mod target;
 
 pub use beginning::supplies;
 pub use pass::Pass;
-pub use serving::{enter_all, send_all};
+pub use serving::{close_all, enter_all, send_all};
 pub use supply::{SourceReader, TrackSupply};

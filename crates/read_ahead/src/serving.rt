@@ -130,8 +130,8 @@ pub fn send_all<M: Media>(
     }
 }
 
-/// Closes every ring.
-pub(crate) fn close_all(sends: &mut [RingIn<Item>])
+/// Closes every ring: nothing more is sent.
+pub fn close_all(sends: &mut [RingIn<Item>])
     ensures { AreShut sends.old sends.new }
 {
     for track in 0..sends.len() {

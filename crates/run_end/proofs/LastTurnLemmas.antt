@@ -132,7 +132,7 @@ module _ {V I W : Type 0} (media : MediaOutside V) (on : Started V I W) (old : E
         (reads_on answer was (media.read_faults on.media) (media.read_faults old.butler.media) (media.read_faults turns.butler.media) turns.turn.fails.reads last.reads);
     writes = subst (λ (b : ButlerState V). IsFaultCount (media.write_faults on.media) (media.write_faults b.media) (after_turn answer was).write) (sym butler_is)
         (writes_on answer was (media.write_faults on.media) (media.write_faults old.butler.media) (media.write_faults turns.butler.media) turns.turn.fails.writes last.writes);
-    butler_reads = read_known answer was old.butler.read_failed new.butler.read_failed (ap (λ (b : ButlerState V). b.read_failed) butler_is ∙ turns.turn.fails.read_failed) last.butler_reads;
+    butler_reads = read_known answer was old.butler.hushed new.butler.hushed (ap (λ (b : ButlerState V). b.hushed) butler_is ∙ turns.turn.fails.hushed) last.butler_reads;
     butler_writes = write_known answer was old.butler.write_failed new.butler.write_failed (ap (λ (b : ButlerState V). b.write_failed) butler_is ∙ turns.turn.fails.write_failed) last.butler_writes;
   })
 

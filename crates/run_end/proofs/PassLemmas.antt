@@ -69,7 +69,7 @@ module _ {V I W : Type 0} (media : MediaOutside V) (inputs : SourceOutside I) (o
   -- each track is tended, and what was sent of it is ordered
   record IsSent (t : ℕ) (d : Sender Item) : Type 0 where
     depth : d.depth ≡ s.depth
-    closed_so : d.closed ≡ e.butler.read_failed
+    closed_so : d.closed ≡ e.butler.hushed
     in_order : is_ordered_newest s edits t (reverse (kinds d.sent)) ≡ true
 
   is_sent : (t : ℕ) (d : Sender Item) → slice_get e.butler.ends.sends.items t ≡ Some d → IsSent t d

@@ -27,7 +27,7 @@ pub record TakesLastTurns {V I W : Type 0} (media : MediaOutside V) (on : Starte
   -- each count of faults rose exactly where it is noted, and the butler knows of it
   pub reads : IsFaultCount (media.read_faults on.media) (media.read_faults e.butler.media) failed.read
   pub writes : IsFaultCount (media.write_faults on.media) (media.write_faults e.butler.media) failed.write
-  pub butler_reads : e.butler.read_failed ≡ failed.read
+  pub butler_reads : e.butler.hushed ≡ failed.read
   pub butler_writes : e.butler.write_failed ≡ failed.write
 
 -- ---- the turns themselves

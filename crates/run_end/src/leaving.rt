@@ -17,7 +17,6 @@ use ses_io::{Media, Sink, Source};
 use worker_pair::{Ending, Stopped};
 
 /// A run whose process has ended and whose butler has nothing left to do.
-#[derive(Drop)]
 pub(crate) struct AtRest<M: Media, I, W> {
     pub(crate) ending: Ending<M>,
     pub(crate) stopped: Stopped<I, W>,

@@ -19,7 +19,6 @@ use session_model::EditList;
 use worker_pair::{Ending, Stopped};
 
 /// What a run leaves of what it was given, and what it made.
-#[derive(Drop)]
 pub struct RunEnd<M, I, W> {
     pub media: M,
     pub input: I,

@@ -1,7 +1,6 @@
 -- What a butler keeps of its ends.
 use Rattle.std.proofs.Common.{◌≡◌, ℕ, ◌≤◌, List, refl, sym, ap, ◌∙◌, subst, arith}
 use Rattle.std.specs.Prelude.{Bool, true, false, if◌then◌else◌, slice_get, Some, Result}
-use Rattle.std.proofs.lemmas.List.{length-map}
 use Rattle.std.proofs.lemmas.Option.{same_Some, slice_get_within}
 use mathlib.Core.List.{IsPrefix}
 use base.Growing.{prefix_refl, prefix_trans}
@@ -9,21 +8,19 @@ use Rattle.ses_io.specs.Outside.{MediaOutside}
 use Rattle.session_model.specs.declared.session.Session.{Session}
 use Rattle.session_model.specs.declared.edit.Edit.{Edit}
 use Rattle.engine_laws.proofs.ListLemmas.{item_at}
-use Rattle.machine_laws.proofs.Tracks.{of_mapped}
 use Rattle.edition_log.specs.EditionState.{EditionState as Edition}
 use Rattle.disk_ring.specs.Receiver.{GoesOnOut}
 use Rattle.disk_ring.specs.Sender.{Sender}
 use Rattle.disk_ring.proofs.GoesOn.{goes_on_out_refl, goes_on_out_trans}
 use Rattle.piece_item.specs.declared.butler_ends.ButlerEnds.{ButlerEnds}
 use Rattle.piece_item.specs.declared.item.Item.{Item}
-use Rattle.process_ends.specs.Ends.{shut}
 use Rattle.butler.specs.declared.turning.Turn.{Turn}
 use Rattle.butler.specs.declared.faults.ButlerFault.{ButlerFault}
 use Rattle.butler.specs.ButlerState.{ButlerState}
 use Rattle.butler.specs.Faults.{Fails, KeepsRest, is_read_fault, is_write_fault}
+use Rattle.butler.specs.Hushed.{Hushes}
 use Rattle.butler.specs.Serving.{IsServing}
 use Rattle.butler.specs.Turns.{AllSend, Receives}
-use Rattle.serve_worker.specs.Ends.{shut_sends}
 use Rattle.serve_worker.specs.Kept.{KeepsButler, KeepsItsEnds, KeepsSending}
 
 -- ---- one end
@@ -42,7 +39,7 @@ sending_trans a b c h k = record {
   closed = λ so. k.closed (h.closed so);
 }
 
-sending_shut : (a b : Sender Item) → b ≡ shut a → KeepsSending a b
+sending_shut : (a b : Sender Item) → b ≡ record a { closed = true } → KeepsSending a b
 sending_shut a b is = subst (KeepsSending a) (sym is) (record { ring = refl; depth = refl; room = refl; sent = prefix_refl a.sent; heads = prefix_refl a.heads; got = omega arith; closed = λ so. refl })
 
 -- ---- all of them
@@ -67,33 +64,36 @@ rings_trans x y z h k = record {
   acks = goes_on_out_trans x.acks y.acks z.acks h.acks k.acks;
 }
 
--- closing keeps them
-pub rings_shut : (ends : ButlerEnds) → KeepsItsEnds ends (shut_sends ends)
-rings_shut ends = record {
-  many_sends = length-map ends.sends.items shut;
-  sends = λ t a b ha hb. let c = of_mapped shut ends.sends.items t b hb in sending_shut a b (c.2 ∙ ap shut (same_Some c.0 a (sym c.1 ∙ ha)));
-  many_takes = refl;
-  takes = (rings_refl ends).takes;
-  acks = goes_on_out_refl ends.acks;
-}
-
 -- ---- the butler
 
 module _ {V : Type 0} where
   pub butler_refl : (b : ButlerState V) → KeepsButler b b
-  butler_refl b = record { ends = rings_refl b.ends; opened = refl; cycles = refl; read_failed = λ so. so; write_failed = λ so. so }
+  butler_refl b = record { ends = rings_refl b.ends; opened = refl; cycles = refl; hushed = λ so. so; write_failed = λ so. so }
 
   pub butler_trans : (a b c : ButlerState V) → KeepsButler a b → KeepsButler b c → KeepsButler a c
   butler_trans a b c h k = record {
     ends = rings_trans a.ends b.ends c.ends h.ends k.ends;
     opened = k.opened ∙ h.opened;
     cycles = k.cycles ∙ h.cycles;
-    read_failed = λ so. k.read_failed (h.read_failed so);
+    hushed = λ so. k.hushed (h.hushed so);
     write_failed = λ so. k.write_failed (h.write_failed so);
   }
 
-  pub butler_shut : (b : ButlerState V) → KeepsButler b (record b { ends = shut_sends b.ends })
-  butler_shut b = record { ends = rings_shut b.ends; opened = refl; cycles = refl; read_failed = λ so. so; write_failed = λ so. so }
+  -- told to send nothing any more it keeps them too
+  pub butler_hushed : (old new : ButlerState V) → Hushes old new → KeepsButler old new
+  butler_hushed old new does = subst (KeepsButler old) (sym does.same) (record {
+    ends = record {
+      many_sends = does.shut.sends;
+      sends = λ t a b ha hb. sending_shut a b (does.shut.each t a b ha hb);
+      many_takes = refl;
+      takes = (rings_refl old.ends).takes;
+      acks = goes_on_out_refl old.ends.acks;
+    };
+    opened = refl;
+    cycles = refl;
+    hushed = λ so. refl;
+    write_failed = λ so. so;
+  })
 
 -- what has failed has
 still_failed : (flag was now : Bool) → now ≡ (if flag then true else was) → was ≡ true → now ≡ true
@@ -104,7 +104,7 @@ still_failed false was now is so = is ∙ so
 
 module _ {V : Type 0} (media : MediaOutside V) (s : Session) (before now : List Edit) (e : Edition) (old new : ButlerState V) (answer : Result Turn ButlerFault) (was : IsServing s before old) (is : IsServing s now new)
     (fails : Fails media old answer new) where
-  still_closed : (flag : Bool) → (a b : Bool) → a ≡ old.read_failed → b ≡ new.read_failed → new.read_failed ≡ (if flag then true else old.read_failed) → a ≡ true → b ≡ true
+  still_closed : (flag : Bool) → (a b : Bool) → a ≡ old.hushed → b ≡ new.hushed → new.hushed ≡ (if flag then true else old.hushed) → a ≡ true → b ≡ true
   still_closed true a b ha hb so on = hb ∙ so
   still_closed false a b ha hb so on = hb ∙ so ∙ sym ha ∙ on
 
@@ -118,7 +118,7 @@ module _ {V : Type 0} (media : MediaOutside V) (s : Session) (before now : List 
         sent = sent;
         heads = heads;
         got = got;
-        closed = still_closed (is_read_fault answer) a.closed b.closed (was.tracks t p.0 a p.1 ha).closed (is.tracks t q.0 b q.1 hb).closed fails.read_failed;
+        closed = still_closed (is_read_fault answer) a.closed b.closed (was.tracks t p.0 a p.1 ha).closed (is.tracks t q.0 b q.1 hb).closed fails.hushed;
       }
 
   turn_keeps_rings : Receives old new → AllSend s e old new → KeepsItsEnds old.ends new.ends
@@ -135,6 +135,6 @@ module _ {V : Type 0} (media : MediaOutside V) (s : Session) (before now : List 
     ends = turn_keeps_rings receives sends;
     opened = rest.sources;
     cycles = rest.cycles;
-    read_failed = still_failed (is_read_fault answer) old.read_failed new.read_failed fails.read_failed;
+    hushed = still_failed (is_read_fault answer) old.hushed new.hushed fails.hushed;
     write_failed = still_failed (is_write_fault answer) old.write_failed new.write_failed fails.write_failed;
   }

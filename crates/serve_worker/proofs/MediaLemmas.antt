@@ -22,15 +22,15 @@ counts_on before middle now true false c d = subst (HasRisen before) (sym d) c
 counts_on before middle now false true c d = subst (λ n. HasRisen n now) c d
 counts_on before middle now false false c d = d ∙ c
 
-module _ {V : Type 0} (media : MediaOutside V) (on : ServedFrom) (e : Edition) (old new : ButlerState V) (answer : Result Turn ButlerFault) (kept : KeepsMedia media on old) (fails : Fails media old answer new)
+module _ {V : Type 0} (media : MediaOutside V) (on : ServedFrom) (e : Edition) (old new : ButlerState V) (answer : Result Turn ButlerFault) (failed : Bool) (kept : KeepsMedia media on failed old) (fails : Fails media old answer new)
     (rest : KeepsRest media on.at.session e old new) where
-  pub media_turned : (edits : List Edit) → (media.tells → TakesAreKept on.at (media.files old.media) (media.files new.media) old new) → KeepsMedia media (with_entered edits on) new
+  pub media_turned : (edits : List Edit) → (media.tells → TakesAreKept on.at (media.files old.media) (media.files new.media) old new) →
+      KeepsMedia media (with_entered edits on) (if is_read_fault answer then true else failed) new
   media_turned edits takes = record {
     others = λ tells q other. rest.others tells q other ∙ kept.others tells q other;
     may_record = λ tells. subst (MayRecord on.at.session on.at.held) (sym rest.sources) (kept.may_record tells);
     takes = λ tells. takes_turned media on.at on.write_faults old new answer (takes tells) fails (kept.takes tells);
-    reads = subst (λ b. Counts b on.read_faults (media.read_faults new.media)) (sym fails.read_failed)
-        (counts_on on.read_faults (media.read_faults old.media) (media.read_faults new.media) old.read_failed (is_read_fault answer) kept.reads fails.reads);
+    reads = counts_on on.read_faults (media.read_faults old.media) (media.read_faults new.media) failed (is_read_fault answer) kept.reads fails.reads;
     writes = subst (λ b. Counts b on.write_faults (media.write_faults new.media)) (sym fails.write_failed)
         (counts_on on.write_faults (media.write_faults old.media) (media.write_faults new.media) old.write_failed (is_write_fault answer) kept.writes fails.writes);
   }

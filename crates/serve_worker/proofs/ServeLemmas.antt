@@ -1,133 +1,122 @@
 -- Why the butler's thread serves on.
-use Rattle.std.proofs.Common.{◌≡◌, ℕ, List, ◌++◌, append-nil, length, sym, ap, subst, ◌∙◌, arith}
-use Rattle.std.specs.Prelude.{drop, map, take, IsSomeAnd, Result, Ok, Err}
-use Rattle.std.proofs.lemmas.List.{drop_all, length-map, take_all}
+use Rattle.std.proofs.Common.{◌≡◌, ℕ, List, ◌++◌, length, sym, ap, subst, ◌∙◌, arith}
+use Rattle.std.specs.Prelude.{Bool, true, false, if◌then◌else◌, take, Result}
+use Rattle.std.proofs.lemmas.List.{take_all}
 use mathlib.Core.List.{IsPrefix}
 use base.Growing.{prefix_refl, prefix_trans}
+use lib.Seq.{take-append_seam}
 use Rattle.ses_io.specs.Outside.{MediaOutside}
 use Rattle.session_model.specs.declared.edit.Edit.{Edit}
 use Rattle.edition_log.specs.EditionState.{EditionState as Edition}
 use Rattle.butler.specs.declared.turning.Turn.{Turn}
-use Rattle.butler.specs.declared.turning.Turn.TheVariants.{Moved, Idle}
 use Rattle.butler.specs.declared.faults.ButlerFault.{ButlerFault}
-use Rattle.disk_ring.specs.Sender.{Sender}
-use Rattle.machine_laws.proofs.Tracks.{of_mapped}
-use Rattle.piece_item.specs.declared.butler_ends.ButlerEnds.{ButlerEnds}
-use Rattle.piece_item.specs.declared.item.Item.{Item}
-use Rattle.capture_drain.specs.State.{DrainState}
-use Rattle.process_ends.specs.Ends.{shut}
-use Rattle.butler.specs.ButlerState.{ButlerState, Rested, rested, resumed}
-use Rattle.butler.specs.Faults.{Fails, KeepsRest}
-use Rattle.butler.specs.Serving.{AreStocked, IsServing, IsTrueTo}
+use Rattle.butler.specs.ButlerState.{ButlerState}
+use Rattle.butler.specs.Faults.{Fails, KeepsRest, is_read_fault}
+use Rattle.butler.specs.Hushed.{Hushes}
+use Rattle.butler.specs.Serving.{IsServing, IsTrueTo}
 use Rattle.butler.specs.Turns.{StaysTrue, TakesAreKept}
 use Rattle.butler.specs.Turns as butler
+use Rattle.butler.proofs.HushLemmas.{hushed_serves, hushed_true}
 use Rattle.route_lists.specs.Answers.{Enters}
 use Rattle.route_lists.specs.Lists.{IsReaderOf, Reading}
 use Rattle.serve_worker.specs.declared.told.ServeTold.{ServeTold}
 use Rattle.serve_worker.specs.declared.worker.ServeWorker.{ServeWorker}
-use Rattle.serve_worker.specs.declared.worker.TurnStep.{TurnStep}
-use Rattle.serve_worker.specs.declared.worker.TurnStep.TheVariants as step
-use Rattle.serve_worker.specs.Ends.{TurnedOnce, TurnIsRefused, HasShut, MakesATurn, TurnLeaves, shut_sends, turn_step}
-use Rattle.serve_worker.specs.Serves.{ServedFrom, ServesAlone, ServesAt, with_entered, served_from}
-use Rattle.serve_worker.specs.Kept.{KeepsButler}
-use Rattle.serve_worker.proofs.KeptLemmas.{butler_shut}
+use Rattle.serve_worker.specs.Ends.{TurnedOnce, TurnIsRefused, MakesATurn}
+use Rattle.serve_worker.specs.Serves.{FlushesAlone, FlushesAt, IsServingAs, KeepsMedia, ServedFrom, ServesAlone, ServesAt, TurnsAt, with_entered, served_from}
 use Rattle.serve_worker.proofs.MediaLemmas.{media_turned, true_turned}
 
 module _ {V : Type 0} (media : MediaOutside V) (on : ServedFrom) where
-  -- a newer edition may be entered
-  pub enters_on : (old w : ServeWorker V) → ServesAt media on old → w ≡ record { reader = w.reader; butler = old.butler } → IsReaderOf on.at.session w.reader →
-      IsPrefix old.reader.edition.edits w.reader.edition.edits → ServesAt media on w
-  enters_on old w serves same of more = subst (ServesAt media on) (sym same) (record {
-    reader_of = of;
-    begins = prefix_trans on.at.edits old.reader.edition.edits w.reader.edition.edits serves.begins more;
-    serving = serves.serving;
+  -- ---- a newer edition may be entered
+
+  pub reads_on : (failed : Bool) (old w : ServeWorker V) → IsServingAs media failed on old → IsReaderOf on.at.session w.reader → IsPrefix old.reader.edition.edits w.reader.edition.edits →
+      IsServingAs media failed on (record { reader = w.reader; butler = old.butler })
+  reads_on failed old w serves of more = record {
+    turns = record { reader_of = of; begins = prefix_trans on.at.edits old.reader.edition.edits w.reader.edition.edits serves.turns.begins more; serving = serves.turns.serving };
     keeps = serves.keeps;
     true_to = serves.true_to;
-  })
-
-  pub enters : (w : ServeWorker V) (e : Edition) → e ≡ w.reader.edition → ServesAt media on w → butler.Enters on.at w.butler e
-  enters w e is serves = subst (butler.Enters on.at w.butler) (sym is) (record { serving = serves.serving; edition_of = serves.reader_of.0; grows = serves.begins })
-
-  -- **A turn serves on.**
-  pub serves_on : (w : ServeWorker V) (e : Edition) (b : ButlerState V) (answer : Result Turn ButlerFault) → e ≡ w.reader.edition → ServesAt media on w → IsServing on.at.session e.edits b →
-      (media.tells → TakesAreKept on.at (media.files w.butler.media) (media.files b.media) w.butler b) → (media.tells → StaysTrue media on.at e w.butler b) → Fails media w.butler answer b →
-      KeepsRest media on.at.session e w.butler b → ServesAt media (with_entered w.reader.edition.edits on) (record { reader = w.reader; butler = b })
-  serves_on w e b answer is serves serving takes stays fails rest = record {
-    reader_of = serves.reader_of;
-    begins = prefix_refl w.reader.edition.edits;
-    serving = subst (λ (z : Edition). IsServing on.at.session z.edits b) is serving;
-    keeps = media_turned media on e w.butler b answer serves.keeps fails rest w.reader.edition.edits takes;
-    true_to = λ tells. subst (λ (z : Edition). IsTrueTo on.at.held on.at.session z.edits b) is (true_turned media on e w.butler b answer serves.keeps fails rest stays serves.true_to tells);
   }
+
+  pub enters_on : (old w : ServeWorker V) → ServesAt media on old → w ≡ record { reader = w.reader; butler = old.butler } → IsReaderOf on.at.session w.reader →
+      IsPrefix old.reader.edition.edits w.reader.edition.edits → ServesAt media on w
+  enters_on old w serves same of more = subst (ServesAt media on) (sym same) (reads_on old.butler.hushed old w serves of more)
+
+  pub enters : (w : ServeWorker V) (e : Edition) → e ≡ w.reader.edition → TurnsAt on w → butler.Enters on.at w.butler e
+  enters w e is may = subst (butler.Enters on.at w.butler) (sym is) (record { serving = may.serving; edition_of = may.reader_of.0; grows = may.begins })
+
+  -- ---- a turn
+
+  module _ (w : ServeWorker V) (e : Edition) (b : ButlerState V) (answer : Result Turn ButlerFault) (is : e ≡ w.reader.edition) (serving : IsServing on.at.session e.edits b)
+      (takes : media.tells → TakesAreKept on.at (media.files w.butler.media) (media.files b.media) w.butler b) (stays : media.tells → StaysTrue media on.at e w.butler b)
+      (fails : Fails media w.butler answer b) (rest : KeepsRest media on.at.session e w.butler b) where
+    abbrev after : ServeWorker V
+    after = record { reader = w.reader; butler = b }
+
+    turned : (failed : Bool) → IsServingAs media failed on w → IsServingAs media (if is_read_fault answer then true else failed) (with_entered w.reader.edition.edits on) after
+    turned failed serves = record {
+      turns = record {
+        reader_of = serves.turns.reader_of;
+        begins = prefix_refl w.reader.edition.edits;
+        serving = subst (λ (z : Edition). IsServing on.at.session z.edits b) is serving;
+      };
+      keeps = media_turned media on e w.butler b answer failed serves.keeps fails rest w.reader.edition.edits takes;
+      true_to = λ tells. subst (λ (z : Edition). IsTrueTo on.at.held on.at.session z.edits b) is (true_turned media on e w.butler b answer failed serves.keeps fails rest stays serves.true_to tells);
+    }
+
+    -- **A turn serves on,**
+    pub serves_on : ServesAt media on w → ServesAt media (with_entered w.reader.edition.edits on) after
+    serves_on serves = subst (λ failed. IsServingAs media failed (with_entered w.reader.edition.edits on) after) (sym fails.hushed) (turned w.butler.hushed serves)
+
+    -- **or flushes on:** one that sends nothing reads nothing.
+    pub flushes_on : FlushesAt media on w → FlushesAt media (with_entered w.reader.edition.edits on) after
+    flushes_on flushes = let unread = (fails.read_once flushes.hushed).0 in record {
+      read_failed = flushes.read_failed;
+      serves = subst (λ (flag : Bool). IsServingAs media (if flag then true else flushes.read_failed) (with_entered w.reader.edition.edits on) after) unread (turned flushes.read_failed flushes.serves);
+      hushed = fails.hushed ∙ ap (λ (flag : Bool). if flag then true else w.butler.hushed) unread ∙ flushes.hushed;
+    }
 
   -- ---- a step
 
   -- by the worker that entered
-  pub made_turn : (most : ℕ) (old w new : ServeWorker V) (how : TurnStep) → w ≡ record { reader = w.reader; butler = old.butler } → new ≡ record { reader = w.reader; butler = new.butler } →
-      Enters old.reader w.reader → TurnedOnce media on.at.session most w how new → ServesAt media (with_entered w.reader.edition.edits on) new → MakesATurn media on most old how new
-  made_turn most old w new how same kept entered turned serves = let reader : new.reader ≡ w.reader = ap (λ (z : ServeWorker V). z.reader) kept in record {
+  pub made_turn : (most : ℕ) (old w new : ServeWorker V) (idle : Bool) → w ≡ record { reader = w.reader; butler = old.butler } → new ≡ record { reader = w.reader; butler = new.butler } →
+      Enters old.reader w.reader → TurnedOnce media on.at.session most w idle new → ServesAt media (with_entered new.reader.edition.edits on) new → MakesATurn media on most old idle new
+  made_turn most old w new idle same kept entered once serves = let reader : new.reader ≡ w.reader = ap (λ (z : ServeWorker V). z.reader) kept in record {
     entered = subst (Enters old.reader) (sym reader) entered;
-    turned = subst (λ z. TurnedOnce media on.at.session most z how new) (same ∙ ap (λ r. record { reader = r; butler = old.butler }) (sym reader)) turned;
-    serves = subst (λ (r : Reading). ServesAt media (with_entered r.edition.edits on) new) (sym reader) serves;
+    turned = subst (λ z. TurnedOnce media on.at.session most z idle new) (same ∙ ap (λ r. record { reader = r; butler = old.butler }) (sym reader)) once;
+    serves = serves;
   }
-
-  -- by how it went
-  pub step_leaves : (most : ℕ) (old new : ServeWorker V) (how : TurnStep) → MakesATurn media on most old how new → TurnLeaves media on most old how new
-  step_leaves most old new step.Served made = made
-  step_leaves most old new step.Idle made = made
-  step_leaves most old new step.Refused made = absurd (never made.turned.answer made.turned.how_is)
-    where
-      never : (answer : Result Turn ButlerFault) → step.Refused ≡ turn_step answer → ⊥
-      never (Ok Idle) is = cc
-      never (Ok (Moved n)) is = cc
-      never (Err why) is = cc
 
   -- by the worker whose reader was refused
-  pub refused : (old w new : ServeWorker V) → ServesAt media on old → w ≡ record { reader = w.reader; butler = old.butler } → IsReaderOf on.at.session w.reader →
-      IsPrefix old.reader.edition.edits w.reader.edition.edits → HasShut w new → TurnIsRefused media on old new
-  refused old w new serves same of more shuts = let is : w ≡ record { reader = new.reader; butler = old.butler } = same ∙ ap (λ r. record { reader = r; butler = old.butler }) (sym (ap (λ (z : ServeWorker V). z.reader) shuts)) in record {
-    serves = subst (ServesAt media on) is (enters_on old w serves same of more);
-    is_shut = subst (λ z. HasShut z new) is shuts;
+  pub refused : (old w new : ServeWorker V) → ServesAt media on old → w ≡ record { reader = w.reader; butler = old.butler } → new ≡ record { reader = w.reader; butler = new.butler } →
+      IsReaderOf on.at.session w.reader → IsPrefix old.reader.edition.edits w.reader.edition.edits → Hushes w.butler new.butler → TurnIsRefused media on old new
+  refused old w new serves same kept of more hushes = let reader : new.reader ≡ w.reader = ap (λ (z : ServeWorker V). z.reader) kept in record {
+    serves = subst (λ (r : Reading). ServesAt media on (record { reader = r; butler = old.butler })) (sym reader) (reads_on old.butler.hushed old w serves of more);
+    hushes = subst (λ (b : ButlerState V). Hushes b new.butler) (ap (λ (z : ServeWorker V). z.butler) same) hushes;
   }
 
--- ---- closing
-
--- the ends, where these are written back
-abbrev pub ends_back : ButlerEnds → List (Sender Item) → ButlerEnds
-ends_back ends ys = record { sends = record { items = take (length ends.sends.items) (ys ++ drop (length ys) ends.sends.items); room = ends.sends.room }; takes = ends.takes; acks = ends.acks }
-
--- what was written back is all of it
-written_back : (xs ys : List (Sender Item)) → ys ≡ map shut xs → take (length xs) (ys ++ drop (length ys) xs) ≡ map shut xs
-written_back xs ys is = ap (λ n. take (length xs) (ys ++ drop n xs)) many ∙ ap (λ l. take (length xs) (ys ++ l)) (drop_all (length xs) xs (omega arith)) ∙ ap (take (length xs)) (append-nil ys)
-    ∙ take_all (length xs) ys (omega (arith, many)) ∙ is
-  where
-    many : length ys ≡ length xs
-    many = ap length is ∙ length-map xs shut
-
--- the butler's boxes fit still
-stocked_shut : (supplies : List _) (drain : DrainState) (ends : ButlerEnds) → AreStocked supplies drain ends → AreStocked supplies drain (shut_sends ends)
-stocked_shut supplies drain ends was = record {
-  many = was.many ∙ sym (length-map ends.sends.items shut);
-  each = λ t p d hp hd. let c = of_mapped shut ends.sends.items t d hd in record { spare = subst (λ n. IsSomeAnd p.spare (λ b. length b.value.samples.items ≡ n)) (ap (λ (z : Sender Item). z.room) (sym c.2)) (was.each t p c.0 hp c.1).spare };
-  takes = was.takes;
-}
-
-pub stocked_back : (supplies : List _) (drain : DrainState) (ends : ButlerEnds) (ys : List (Sender Item)) → ys ≡ map shut ends.sends.items → AreStocked supplies drain ends →
-    AreStocked supplies drain (ends_back ends ys)
-stocked_back supplies drain ends ys is was = subst (λ l. AreStocked supplies drain (record { sends = record { items = l; room = ends.sends.room }; takes = ends.takes; acks = ends.acks }))
-    (sym (written_back ends.sends.items ys is)) (stocked_shut supplies drain ends was)
-
--- **Its rings are closed.**
-pub shuts_by : {V : Type 0} (w : ServeWorker V) (r : Rested V) (ends : ButlerEnds) (ys : List (Sender Item)) (b : ButlerState V) →
-    b ≡ resumed r (ends_back ends ys) → r ≡ rested w.butler →
-    ends ≡ w.butler.ends → ys ≡ map shut ends.sends.items → HasShut w (record { reader = w.reader; butler = b })
-shuts_by w r ends ys b back out same is = ap (λ z. record { reader = w.reader; butler = z }) (back ∙ ap (λ z. resumed z (ends_back ends ys)) out
-    ∙ ap (λ e. resumed (rested w.butler) e) (ap (λ l. record { sends = record { items = l; room = ends.sends.room }; takes = ends.takes; acks = ends.acks }) (written_back ends.sends.items ys is) ∙ ap shut_sends same))
-
-pub shut_keeps : {V : Type 0} (old w new : ServeWorker V) → w ≡ record { reader = w.reader; butler = old.butler } → HasShut w new → KeepsButler old.butler new.butler
-shut_keeps {V} old w new same shuts = subst (KeepsButler old.butler) (ap (λ (z : ServeWorker V). record z.butler { ends = shut_sends z.butler.ends }) (sym same) ∙ sym (ap (λ (z : ServeWorker V). z.butler) shuts)) (butler_shut old.butler)
+  -- which then flushes on
+  pub refused_flushes : (old new : ServeWorker V) → TurnIsRefused media on old new → FlushesAt media on new
+  refused_flushes old new is = let was = is.serves in record {
+    read_failed = old.butler.hushed;
+    serves = record {
+      turns = record { reader_of = was.turns.reader_of; begins = was.turns.begins; serving = hushed_serves on.at.session on.at.edits old.butler new.butler is.hushes was.turns.serving };
+      keeps = subst (KeepsMedia media on old.butler.hushed) (sym is.hushes.same) (record { others = was.keeps.others; may_record = was.keeps.may_record; takes = λ tells. let held = was.keeps.takes tells in record { flushed = held.flushed; none_failed = held.none_failed; many = held.many }; reads = was.keeps.reads; writes = was.keeps.writes });
+      true_to = λ tells. hushed_true on.at.session on.at.edits old.butler new.butler is.hushes on.at.held (was.true_to tells);
+    };
+    hushed = ap (λ (b : ButlerState V). b.hushed) is.hushes.same;
+  }
 
 -- ---- by its own number
 
-pub serves_now : {V : Type 0} (media : MediaOutside V) (told : ServeTold V) (edits : List Edit) (w : ServeWorker V) → ServesAt media (with_entered w.reader.edition.edits (served_from media told edits)) w → ServesAlone media told w
-serves_now {V} media told edits w serves = subst (λ z. ServesAt media (served_from media told z) w) (sym (take_all w.butler.entered w.reader.edition.edits (omega (arith, serves.serving.entered)))) serves
+module _ {V : Type 0} (media : MediaOutside V) (told : ServeTold V) where
+  pub serves_now : (edits : List Edit) (w : ServeWorker V) → ServesAt media (with_entered w.reader.edition.edits (served_from media told edits)) w → ServesAlone media told w
+  serves_now edits w serves = subst (λ z. ServesAt media (served_from media told z) w) (sym (take_all w.butler.entered w.reader.edition.edits (omega (arith, serves.turns.serving.entered)))) serves
+
+  pub flushes_now : (edits : List Edit) (w : ServeWorker V) → FlushesAt media (with_entered w.reader.edition.edits (served_from media told edits)) w → FlushesAlone media told w
+  flushes_now edits w flushes = subst (λ z. FlushesAt media (served_from media told z) w) (sym (take_all w.butler.entered w.reader.edition.edits (omega (arith, flushes.serves.turns.serving.entered)))) flushes
+
+  -- the edits that it entered last are the first of those that its reader saw later
+  pub flushes_first : (edits : List Edit) (w : ServeWorker V) → FlushesAt media (served_from media told edits) w → FlushesAlone media told w
+  flushes_first edits w flushes = subst (λ z. FlushesAt media (served_from media told z) w) (sym (taken edits w.reader.edition.edits w.butler.entered flushes.serves.turns.serving.entered flushes.serves.turns.begins)) flushes
+    where
+      taken : (xs ys : List Edit) (n : ℕ) → n ≡ length xs → IsPrefix xs ys → take n ys ≡ xs
+      taken xs ys n is (zs, more) = ap (take n) (sym more) ∙ ap (λ m. take m (xs ++ zs)) is ∙ take-append_seam xs zs

@@ -33,5 +33,5 @@ pub record KeepsButler {V : Type 0} (old new : ButlerState V) : Type 0 where
   pub ends : KeepsItsEnds old.ends new.ends
   pub opened : new.sources.opened ≡ old.sources.opened
   pub cycles : new.cycles ≡ old.cycles
-  pub read_failed : old.read_failed ≡ true → new.read_failed ≡ true
+  pub hushed : old.hushed ≡ true → new.hushed ≡ true
   pub write_failed : old.write_failed ≡ true → new.write_failed ≡ true

@@ -1,5 +1,5 @@
 -- What is so of the butler's thread between two turns, by its own lists alone.
-use Rattle.std.specs.Prelude.{ℕ, List, take}
+use Rattle.std.specs.Prelude.{◌≡◌, ℕ, Bool, true, List, take}
 use mathlib.Core.List.{IsPrefix}
 use Rattle.ses_io.specs.Outside.{MediaOutside}
 use Rattle.session_model.specs.declared.edit.Edit.{Edit}
@@ -37,23 +37,41 @@ module _ {V : Type 0} where
   entered_last w = take w.butler.entered w.reader.edition.edits
 
   -- What is so of the media: of its files only takes have changed, which hold what was received, and each count of faults rose just
-  -- where the butler has failed so.
-  pub record KeepsMedia (media : MediaOutside V) (on : ServedFrom) (b : ButlerState V) : Type 0 where
+  -- where a call has failed so.
+  pub record KeepsMedia (media : MediaOutside V) (on : ServedFrom) (read_failed : Bool) (b : ButlerState V) : Type 0 where
     pub others : media.tells → OtherFilesStand on.at.session on.at.held (media.files b.media)
     pub may_record : media.tells → MayRecord on.at.session on.at.held b.sources.opened
     pub takes : media.tells → HoldsTakes media (start_of on.at) on.write_faults b
-    pub reads : Counts b.read_failed on.read_faults (media.read_faults b.media)
+    pub reads : Counts read_failed on.read_faults (media.read_faults b.media)
     pub writes : Counts b.write_failed on.write_faults (media.write_faults b.media)
 
-  -- **The butler serves on**, in editions that its reader has seen; what it sent is ordered and genuine by the edits that it entered last.
-  pub record ServesAt (media : MediaOutside V) (on : ServedFrom) (w : ServeWorker V) : Type 0 where
+  -- A turn may be made in the edition that the reader sees: these edits are the first of it.
+  pub record TurnsAt (on : ServedFrom) (w : ServeWorker V) : Type 0 where
     pub reader_of : IsReaderOf on.at.session w.reader
-    -- those are the first of the edits that it sees
     pub begins : IsPrefix on.at.edits w.reader.edition.edits
     pub serving : IsServing on.at.session on.at.edits w.butler
-    pub keeps : KeepsMedia media on w.butler
+
+  -- The butler serves its session, by editions that its reader has seen, and a read has failed or hasn't; what it sent is ordered and
+  -- genuine by the edits that it entered last.
+  pub record IsServingAs (media : MediaOutside V) (read_failed : Bool) (on : ServedFrom) (w : ServeWorker V) : Type 0 where
+    pub turns : TurnsAt on w
+    pub keeps : KeepsMedia media on read_failed w.butler
     pub true_to : media.tells → IsTrueTo on.at.held on.at.session on.at.edits w.butler
 
-  -- it does by its own number
+  -- **The butler serves on**: it sends what is due, unless a read has failed.
+  abbrev pub ServesAt : MediaOutside V → ServedFrom → ServeWorker V → Type 0
+  ServesAt media on w = IsServingAs media w.butler.hushed on w
+
+  -- **Its reader was refused**: it sends nothing any more, and flushes on.
+  pub record FlushesAt (media : MediaOutside V) (on : ServedFrom) (w : ServeWorker V) : Type 0 where
+    -- whether a read had failed before
+    pub read_failed : Bool
+    pub serves : IsServingAs media read_failed on w
+    pub hushed : w.butler.hushed ≡ true
+
+  -- it does either by its own number
   abbrev pub ServesAlone : MediaOutside V → ServeTold V → ServeWorker V → Type 0
   ServesAlone media told w = ServesAt media (served_from media told (entered_last w)) w
+
+  abbrev pub FlushesAlone : MediaOutside V → ServeTold V → ServeWorker V → Type 0
+  FlushesAlone media told w = FlushesAt media (served_from media told (entered_last w)) w

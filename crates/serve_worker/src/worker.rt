@@ -1,16 +1,16 @@
 //! What the butler's thread owns, and one turn of it.
-ghost use Rattle.std.specs.Prelude.{◌≡◌, ◌<◌, MatchResult, true};
+ghost use Rattle.std.specs.Prelude.{◌≡◌, ◌<◌, MatchResult};
 ghost use mathlib.Core.List.{IsPrefix};
 ghost use Rattle.session_model.specs.declared.session.Session.{Session as Opening};
 ghost use Rattle.route_lists.specs.Lists.{IsReaderOf};
 ghost use Rattle.route_lists.specs.Answers.{Enters, HasSameTold};
+ghost use Rattle.butler.specs.Hushed.{Hushes};
 ghost use Rattle.serve_worker.specs.Kept.{KeepsButler};
-ghost use Rattle.serve_worker.specs.Serves.{ServedFrom, ServesAt, with_entered};
-ghost use Rattle.serve_worker.specs.Ends.{TurnedOnce, HasShut, TurnLeaves, turn_step};
+ghost use Rattle.serve_worker.specs.Serves.{FlushesAt, ServedFrom, ServesAt, TurnsAt, with_entered};
+ghost use Rattle.serve_worker.specs.Ends.{TurnedOnce, TurnLeaves, is_idle};
 
 use crate::told::ServeTold;
 use butler::{Butler, ButlerFault, Turn};
-use process_ends::close_all;
 use route_lists::ListReader;
 use ses_io::Media;
 
@@ -33,12 +33,12 @@ pub(crate) enum TurnStep {
 }
 
 // Whether a turn was Idle.
-fn turn_step(answer: Result<Turn, ButlerFault>) -> TurnStep
-    ensures { result ≡ turn_step answer }
+fn is_idle(answer: Result<Turn, ButlerFault>) -> bool
+    ensures { result ≡ is_idle answer }
 {
     match answer {
-        Ok(Turn::Idle) => TurnStep::Idle,
-        Ok(Turn::Moved(_)) | Err(_) => TurnStep::Served,
+        Ok(Turn::Idle) => true,
+        Ok(Turn::Moved(_)) | Err(_) => false,
     }
 }
 
@@ -60,34 +60,31 @@ fn newest<M: Media>(w: ServeWorker<M>) -> Result<ServeWorker<M>, ServeWorker<M>>
     }
 }
 
-// A turn of at most so many items in the edition that is seen.
-fn in_edition<M: Media>(w: ServeWorker<M>, most: u32) -> (ServeWorker<M>, TurnStep)
+/// A turn of at most so many items in the edition that is seen. Whether it was Idle.
+pub(crate) fn in_edition<M: Media>(
+    told: &ServeTold<M>,
+    w: ServeWorker<M>,
+    most: u32,
+) -> (ServeWorker<M>, bool)
     ghost on: { ServedFrom }
     requires some { 0 < most }
-    requires serves { ServesAt M.outside on w }
-    ensures serves { ServesAt M.outside (with_entered result.0.reader.edition.edits on) result.0 }
+    requires may { TurnsAt on w }
+    ensures serves { ServesAt M.outside on w
+        → ServesAt M.outside (with_entered result.0.reader.edition.edits on) result.0 }
+    ensures flushes { FlushesAt M.outside on w
+        → FlushesAt M.outside (with_entered result.0.reader.edition.edits on) result.0 }
     ensures turned { TurnedOnce M.outside on.at.session most w result.1 result.0 }
     ensures same { result.0 ≡ record w { butler = result.0.butler } }
     ensures keeps { KeepsButler w.butler result.0.butler }
 {
+    // by which the caller's clauses know the worker's first media
+    let _ = told;
     let ServeWorker { reader, mut butler } = w;
     let answer = butler.turn(reader.edition(), most);
-    (ServeWorker { reader, butler }, turn_step(answer))
+    (ServeWorker { reader, butler }, is_idle(answer))
 }
 
-// The rings that are sent on are closed, since nothing more is sent.
-fn shut<M: Media>(w: ServeWorker<M>) -> ServeWorker<M>
-    ensures { HasShut w result }
-{
-    let ServeWorker { reader, butler } = w;
-    let (resting, mut ends) = butler.rest();
-    close_all(ends.sends.as_mut_slice());
-    let butler = resting.resume(ends);
-    ServeWorker { reader, butler }
-}
-
-/// A turn of at most so many items in the newest edition. Where the reader is refused none is made, and the rings that are sent on
-/// are closed.
+/// A turn of at most so many items in the newest edition. Where the reader is refused none is made, and nothing is sent any more.
 pub(crate) fn one<M: Media>(
     told: &ServeTold<M>,
     w: ServeWorker<M>,
@@ -101,10 +98,28 @@ pub(crate) fn one<M: Media>(
     ensures told { HasSameTold w.reader result.0.reader }
     ensures grows { IsPrefix w.reader.edition.edits result.0.reader.edition.edits }
 {
-    // by which the caller's clauses know the worker's first media
-    let _ = told;
     match newest(w) {
-        Ok(w) => in_edition(w, most),
-        Err(w) => (shut(w), TurnStep::Refused),
+        Ok(w) => {
+            let (w, idle) = in_edition(told, w, most);
+            (
+                w,
+                if idle {
+                    TurnStep::Idle
+                } else {
+                    TurnStep::Served
+                },
+            )
+        }
+        Err(w) => (hushed(w), TurnStep::Refused),
     }
+}
+
+// Nothing is sent any more.
+fn hushed<M: Media>(w: ServeWorker<M>) -> ServeWorker<M>
+    ensures hushes { Hushes w.butler result.butler }
+    ensures same { result ≡ record w { butler = result.butler } }
+{
+    let mut w = w;
+    w.butler.hush();
+    w
 }

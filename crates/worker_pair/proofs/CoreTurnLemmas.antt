@@ -123,7 +123,7 @@ module _ {V : Type 0} (media : MediaOutside V) (at : At) (e : Ending V) (t : Tur
       tracks = each;
       acks = tied.acks;
       taken = long_acks;
-      none_read = turn.fails.read_failed ∙ tied.none_read;
+      none_read = turn.fails.hushed ∙ tied.none_read;
       none_written = turn.fails.write_failed ∙ tied.none_written;
     }
 

@@ -93,26 +93,26 @@ module _ {V : Type 0} (media : MediaOutside V) (at : At) (e : Ending V) (answer 
 
   -- a turn that isn't Idle did more, or met a fault
   record DidMore : Type 0 where
-    falls : faults_left b.read_failed ≤ faults_left e.butler.read_failed
-    more : total_sent D + total_received C + faults_left b.read_failed < total_sent F + total_received B + faults_left e.butler.read_failed
+    falls : faults_left b.hushed ≤ faults_left e.butler.hushed
+    more : total_sent D + total_received C + faults_left b.hushed < total_sent F + total_received B + faults_left e.butler.hushed
 
-  did_more : (given : Result Turn ButlerFault) → Answers at.begun.session e.edition 1 e.butler given b → b.read_failed ≡ (if is_read_fault given then true else e.butler.read_failed) →
-      (e.butler.read_failed ≡ true → is_read_fault given ≡ false) → is_idle_answer given ≡ false → DidMore
+  did_more : (given : Result Turn ButlerFault) → Answers at.begun.session e.edition 1 e.butler given b → b.hushed ≡ (if is_read_fault given then true else e.butler.hushed) →
+      (e.butler.hushed ≡ true → is_read_fault given ≡ false) → is_idle_answer given ≡ false → DidMore
   did_more (Ok (Moved n)) answers flag once busy = let same = ap faults_left flag in record { falls = omega (arith, same); more = omega (arith, same, answers.0, answers.1.moved) }
   did_more (Ok Idle) answers flag once busy = absurd (true≢false busy)
-  did_more (Err ReadFault) answers flag once busy = by e.butler.read_failed refl
+  did_more (Err ReadFault) answers flag once busy = by e.butler.hushed refl
     where
-      by : (before : Bool) → e.butler.read_failed ≡ before → DidMore
+      by : (before : Bool) → e.butler.hushed ≡ before → DidMore
       by true was = absurd (true≢false (once was))
       by false was = let now = ap faults_left flag in let one = ap faults_left was in record { falls = omega (arith, now, one); more = omega (arith, now, one, sent_rises, received_rises) }
   did_more (Err WriteFault) answers flag once busy = let same = ap faults_left flag in record { falls = omega (arith, same); more = omega (arith, same, answers.some, sent_rises) }
 
   -- so less is left
   less : is_idle_answer answer ≡ false → left_to_do (with_ends (with_butler media e b) ours theirs) < left_to_do e
-  less busy = let done = did_more answer turn.answers turn.fails.read_failed (λ failed. (turn.fails.read_once failed).0) busy in
-      subst (λ n. n < left_to_do e) (sym (λ i. left (many i) (same_sent i) (same_put i) (received i) b.read_failed))
+  less busy = let done = did_more answer turn.answers turn.fails.hushed (λ failed. (turn.fails.read_once failed).0) busy in
+      subst (λ n. n < left_to_do e) (sym (λ i. left (many i) (same_sent i) (same_put i) (received i) b.hushed))
       (less_is_left (length D * 2 ^ 62) (total_sent D) (total_sent F) (sum_by (λ (k : Sender TakeBlock). length k.sent) e.ends.takes.items) (total_received C) (total_received B)
-      (faults_left e.butler.read_failed) (faults_left b.read_failed) sent_rises small received_rises few done.falls done.more)
+      (faults_left e.butler.hushed) (faults_left b.hushed) sent_rises small received_rises few done.falls done.more)
     where
       many : length theirs.sends.items ≡ length D
       many = meet.plays.senders ∙ many_sends media at e answer b serves turn

@@ -193,7 +193,7 @@ module _ {V I W : Type 0} (s : Session) (start : Start V I W) (may : MayBegin s 
       acks = by_ends (λ ours theirs. [] ≡ reverse (map ack_of ours.to_butler.sent))
           (sym (ap (λ (l : List Ack). reverse (map ack_of l)) (new_for_process s w new).to_butler.sent));
       taken = by_ends (λ ours theirs. 0 ≡ length theirs.acks.received) (sym (ap (λ (l : List Ack). length l) (acks_first s w new).received));
-      none_read = have.given.no_read_failed;
+      none_read = have.given.not_hushed;
       none_written = have.given.no_write_failed;
     }
 
@@ -218,7 +218,7 @@ module _ {V I W : Type 0} (s : Session) (start : Start V I W) (may : MayBegin s 
       in_cycle = refl;
       played = have.process.playing.entered;
       entered = have.serving.entered;
-      none_read = have.given.no_read_failed;
+      none_read = have.given.not_hushed;
       none_written = have.given.no_write_failed;
       media_is = have.given.media_is;
       sources_are = ap (λ l. l.opened) have.given.sources_is;

@@ -70,7 +70,7 @@ pub record HaveBegun {V I W : Type 0} (media : MediaOutside V) (inputs : SourceO
   pub in_cycle : p.in_cycle ≡ false
   pub played : p.process.entered ≡ 0
   pub entered : p.butler.entered ≡ 0
-  pub none_read : p.butler.read_failed ≡ false
+  pub none_read : p.butler.hushed ≡ false
   pub none_written : p.butler.write_failed ≡ false
   pub media_is : p.butler.media ≡ start.media
   pub sources_are : p.butler.sources.opened ≡ start.sources.opened

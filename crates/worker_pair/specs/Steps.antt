@@ -48,7 +48,7 @@ pub record IsTurned {V : Type 0} (media : MediaOutside V) (at : At) (e : Ending 
 -- how much a butler may still do while no cycle is made: 2^62 items a track less all that was sent, the blocks that wait, and one for a read fault that may come
 abbrev pub left_to_do : {V : Type 0} → Ending V → ℕ
 left_to_do e = (length e.butler.ends.sends.items * 2 ^ 62 - total_sent e.butler.ends.sends.items)
-    + ((sum_by (λ d. length d.sent) e.ends.takes.items - total_received e.butler.ends.takes.items) + (if e.butler.read_failed then 0 else 1))
+    + ((sum_by (λ d. length d.sent) e.ends.takes.items - total_received e.butler.ends.takes.items) + (if e.butler.hushed then 0 else 1))
 
 -- **A turn, and a meeting of the ends after it.** A turn that isn't Idle leaves less to do.
 pub record Turns {V : Type 0} (media : MediaOutside V) (at : At) (old : Ending V) (answer : Result Turn ButlerFault) (new : Ending V) : Type 0 where

@@ -42,7 +42,7 @@ module _ {V : Type 0} where
     -- the ring of acknowledgements to the butler
     pub acks : c.to_butler.sent ≡ reverse (map ack_of e.ends.to_butler.sent)
     pub taken : c.to_butler.taken ≡ length e.butler.ends.acks.received
-    pub none_read : e.butler.read_failed ≡ false
+    pub none_read : e.butler.hushed ≡ false
     pub none_written : e.butler.write_failed ≡ false
 
 -- the workers without the process, but with its ends

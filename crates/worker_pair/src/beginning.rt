@@ -16,7 +16,6 @@ use std::alloc::Global;
 use wav_codec::WavInfo;
 
 /// What a run is to play, and what it reads and writes.
-#[derive(Drop)]
 pub struct Start<M, I, W> {
     /// Edition 0 of the session.
     pub edition: Edition,
@@ -29,6 +28,24 @@ pub struct Start<M, I, W> {
     pub media: M,
     pub input: I,
     pub master: W,
+}
+
+impl<M, I, W> Start<M, I, W> {
+    /// Gives media, input and master back, and lets go of the rest.
+    pub fn give_back(self) -> (M, I, W)
+        ensures { result ≡ given_of self }
+    {
+        let Start {
+            edition: _,
+            sources: _,
+            cycles: _,
+            form: _,
+            media,
+            input,
+            master,
+        } = self;
+        (media, input, master)
+    }
 }
 
 /// New workers with these ends of new rings. Err is want of memory, and gives media, input and

@@ -16,7 +16,6 @@ use process_ends::{ProcessEnds, meet_ends};
 use ses_io::{Media, Sink, Source};
 
 /// The butler in the newest edition, and the ends that the process left.
-#[derive(Drop)]
 pub struct Ending<M: Media> {
     pub edition: Edition,
     pub butler: Butler<M>,
@@ -25,7 +24,6 @@ pub struct Ending<M: Media> {
 }
 
 /// What the process gives back.
-#[derive(Drop)]
 pub struct Stopped<I, W> {
     pub input: I,
     pub master: W,

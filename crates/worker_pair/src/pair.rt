@@ -14,7 +14,6 @@ use ses_io::{Media, Sink, Source, TryClone};
 use std::alloc::Global;
 
 /// Butler and process.
-#[derive(Drop)]
 pub struct Pair<M: Media, I: Source, W: Sink> {
     /// The newest edition: edits are published in it, and the butler enters it in each turn.
     pub edition: Edition,
@@ -39,10 +38,10 @@ impl<M: Media, I: Source, W: Sink> Pair<M, I, W> {
         ensures back { IfErr result (λ given. given ≡ given_of start) }
     {
         let Ok(playing) = start.edition.try_clone(alloc) else {
-            return Err((start.media, start.input, start.master));
+            return Err(start.give_back());
         };
         let Ok(ends) = new_run_ends(alloc, start.edition.session()) else {
-            return Err((start.media, start.input, start.master));
+            return Err(start.give_back());
         };
         let RunEnds {
             process,

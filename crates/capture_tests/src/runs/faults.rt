@@ -43,7 +43,7 @@ pub(crate) const RUNS: &[Run] = &[
             Step::Turn(100, Turn::Moved(3)),
             Step::Close(0),
             Step::Turn(100, Turn::Idle),
-            Step::Over(false),
+            Step::Over(true),
             Step::CloseAcks,
             Step::Turn(100, Turn::Idle),
             Step::Over(true),

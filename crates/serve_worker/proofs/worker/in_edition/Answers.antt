@@ -8,12 +8,16 @@ use Rattle.serve_worker.proofs.worker.in_edition.Goals as goal
 -- src/worker.rt
 pub returns-clause-serves : goal.returns-clause-serves
 returns-clause-serves g c = let did = c.turn-answer.ensures in
-    serve.serves_on g.M.Media.outside g.on c.args.w c.edition.result.now c.turn-answer.new.self c.turn-answer.result c.edition.ensures c.requires.1.1 did.serving did.takes did.stays_true did.fails did.rest
+    serve.serves_on g.M.Media.outside g.on c.args.w c.edition.result.now c.turn-answer.new.self c.turn-answer.result c.edition.ensures did.serving did.takes did.stays_true did.fails did.rest
+
+pub returns-clause-flushes : goal.returns-clause-flushes
+returns-clause-flushes g c = let did = c.turn-answer.ensures in
+    serve.flushes_on g.M.Media.outside g.on c.args.w c.edition.result.now c.turn-answer.new.self c.turn-answer.result c.edition.ensures did.serving did.takes did.stays_true did.fails did.rest
 
 pub returns-clause-turned : goal.returns-clause-turned
 returns-clause-turned g c = let did = c.turn-answer.ensures in record {
   answer = c.turn-answer.result;
-  how_is = c.turn_step.ensures;
+  idle_is = c.is_idle.ensures;
   answers = subst (λ e. Answers g.on.at.session e c.args.most c.args.w.butler c.turn-answer.result c.turn-answer.new.self) c.edition.ensures did.answer;
   receives = did.receives;
   sends = subst (λ e. AllSend g.on.at.session e c.args.w.butler c.turn-answer.new.self) c.edition.ensures did.sends;

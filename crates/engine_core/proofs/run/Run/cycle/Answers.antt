@@ -2,6 +2,7 @@ use Rattle.std.proofs.Common.{sym, refl, ◌∙◌}
 use Rattle.std.proofs.lemmas.Bool.{false≢true}
 use Rattle.engine_core.proofs.GatherLemmas.{played_all}
 use Rattle.engine_core.proofs.CycleLemmas as cycle
+use Rattle.engine_core.proofs.CoreCycleLemmas.{cycles_open, cycles_shut}
 use Rattle.engine_core.proofs.run.Run.cycle.Goals as goal
 
 -- src/letters.rt
@@ -14,7 +15,7 @@ returns-then-not-self-clause-cycles g c = record {
 }
 
 pub returns-then-not-self-clause-letter : goal.returns-then-not-self-clause-letter
-returns-then-not-self-clause-letter g c = cycle.cycles_shut g.on.begun.session c.args.self.now c.gather.new.self c.gather.ensures.gathers c.gather.ensures.letter c.if-not-self.true
+returns-then-not-self-clause-letter g c = cycles_shut g.on.begun.session c.args.self.now c.gather.new.self c.gather.ensures.gathers c.gather.ensures.letter c.if-not-self.true
 
 pub cycle-answer-requires : goal.cycle-answer-requires
 cycle-answer-requires g c κs within = let r = c.gather.new.self in let now = c.gather.ensures in (
@@ -44,5 +45,5 @@ returns-clause-cycles g c = record {
 }
 
 pub returns-clause-letter : goal.returns-clause-letter
-returns-clause-letter g c = cycle.cycles_open g.on.begun.session c.args.self.now c.gather.new.self c.gather.ensures.gathers c.gather.ensures.letter c.if-not-self.false
+returns-clause-letter g c = cycles_open g.on.begun.session c.args.self.now c.gather.new.self c.gather.ensures.gathers c.gather.ensures.letter c.if-not-self.false
     c.cycle-answer.new.self c.cycle-answer.result c.after_cycle-self.result c.after_cycle-self.ensures c.cycle-answer.ensures.as_machine

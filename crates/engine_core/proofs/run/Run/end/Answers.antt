@@ -1,4 +1,4 @@
-use Rattle.engine_core.proofs.MasterLemmas as master
+use Rattle.engine_core.proofs.MasterEndLemmas as master
 use Rattle.engine_core.proofs.run.Run.end.Goals as goal
 
 -- src/mastering.rt

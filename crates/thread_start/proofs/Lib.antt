@@ -1,0 +1,2 @@
+-- Why workers that did nothing yet are ready.
+pub mod ReadyLemmas
