@@ -61,6 +61,7 @@ module _ {C O : Type 0} (source : SourceOutside C) (sink : SinkOutside O) where
       given ≡ edit_of (line_of answer) → Replies sink (replies_to seen (line_of answer)) (awaiting seen (wait_of seen (line_of answer))) mid new → CarriesOut source sink seen old given new
   carried seen old mid new answer given ready takes gives replies = let line = line_of answer in let c = calm seen (wait_of seen line) in inl record {
     line = line;
+    legal = takes.legal;
     is_given = gives;
     replies = subst (λ (m : ControlState C O). Replies sink (replies_to seen line) (awaiting seen (wait_of seen line)) m new)
         (takes.state ∙ ap (λ (x : ControlState C O). record old { lines = x.lines; script = x.script }) (sym replies.state)) replies;

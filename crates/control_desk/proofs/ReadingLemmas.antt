@@ -44,7 +44,7 @@ read_is line = refl
 
 legal_line : ReadCanBeSaid → WaitsAreFew → (line : List ℕ) (answer : Read Command) → answer ≡ said line → IsLegal (line_of answer)
 legal_line said_again few line (Ok (command.Do edit)) is = (said_again line edit (read_is line ∙ ap line_of (sym is))).forms
-legal_line said_again few line (Ok (command.Wait n)) is = (few line n (read_is line ∙ ap line_of (sym is))).1
+legal_line said_again few line (Ok (command.Wait n)) is = few line n (read_is line ∙ ap line_of (sym is))
 legal_line said_again few line (Ok command.Sync) is = tt
 legal_line said_again few line (Ok command.Nothing) is = tt
 legal_line said_again few line (Err why) is = tt

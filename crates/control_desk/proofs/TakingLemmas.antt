@@ -71,7 +71,7 @@ pub keeps_forms_of : (line : Line) (given : Option Edit) → given ≡ edit_of l
 keeps_forms_of line given is legal = subst (λ g. IfSome g (λ edit. IsTrue (keeps_forms edit))) (sym is) (legal_edit line legal)
 
 pub few_of : (line : Line) (n entries : ℕ) → IsLegal line → line ≡ Says (Wait n) → entries ≤ 100000 → entries + n ≤ 200000
-few_of line n entries legal is few = let most : n ≤ 100000 = subst IsLegal is legal in omega (arith, most, few)
+few_of line n entries legal is few = let most : (1 ≤ n) × (n ≤ 100000) = subst IsLegal is legal in omega (arith, most.1, few)
 
 pub ready_still : {C O : Type 0} {source : SourceOutside C} {old new : ControlState C O} {said : Option (Read Command)} → TakesNext source old said new → is_ready old.standing ≡ true →
     is_ready new.standing ≡ true

@@ -14,6 +14,7 @@ use Rattle.control_desk.specs.Texts.{reply_texts}
 use Rattle.control_desk.specs.Standing.{Standing, Ended, awaiting, cut_off}
 use Rattle.control_desk.specs.State.{ControlState, Tells, ahead}
 use Rattle.control_desk.specs.GoesOn.{GoesOn}
+use Rattle.control_desk.specs.Taking.{IsLegal}
 
 -- ---- what goes out
 
@@ -45,6 +46,8 @@ module _ {C O : Type 0} where
   -- the next line was carried out: an edit is given back, and nothing is answered yet
   pub record CarriesALine (source : SourceOutside C) (sink : SinkOutside O) (seen : Progress) (old : ControlState C O) (given : Option Edit) (new : ControlState C O) : Type 0 where
     pub line : Line
+    -- the words of an edit have their forms, and a wait is of 1 to 100,000 cycles
+    pub legal : IsLegal line
     pub is_given : given ≡ edit_of line
     pub replies : Replies sink (replies_to seen line) (awaiting seen (wait_of seen line)) (record old { lines = new.lines; script = new.script }) new
     pub goes : GoesOn source sink old (line ∷ []) (replies_to seen line) new

@@ -19,7 +19,7 @@ taken (Some answer) = line_of answer ∷ []
 abbrev pub IsLegal : Line → Type 0
 IsLegal Nothing = ⊤
 IsLegal (Says (Do edit)) = IsTrue (keeps_forms edit)
-IsLegal (Says (Wait n)) = n ≤ 100000
+IsLegal (Says (Wait n)) = (1 ≤ n) × (n ≤ 100000)
 IsLegal (Says Sync) = ⊤
 IsLegal (Unread why) = ⊤
 

@@ -2,5 +2,6 @@
 pub mod FrontLemmas
 pub mod LineLemmas
 pub mod LetterLemmas
+pub mod PublishLemmas
 pub mod TakenLemmas
 pub mod WholeLemmas

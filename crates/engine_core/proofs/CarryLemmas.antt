@@ -104,20 +104,6 @@ module _ {C O : Type 0} (source : SourceOutside C) (sink : SinkOutside O) where
 
 -- ---- an edit is published
 
--- an edition that hasn't quit is open
-pub is_open : (s : Session) (e : EditionState) → IsEditionOf s e → e.ended ≡ false → has_quit e.edits (length e.edits) ≡ false → IsOpen e
-is_open s e is ended unquit = record { ended = ended; quit = (editions_play_their_places s e is).quit ∙ unquit }
-
--- what is answered is the machine's answer,
-pub is_answer : (s : Session) (old new : EditionState) (edit : Edit) (answer : Result ℕ Refusal) → IsEditionOf s old → Applies old edit answer new → IsAnswer (apply (edition s old.edits (length old.edits)) edit) answer
-is_answer s old new edit (Ok number) is applies = subst (λ m. IsAnswer m (Ok number)) (sym applies.0 ∙ ap (λ z. apply z edit) is.state) (sym applies.1)
-is_answer s old new edit (Err why) is applies = subst (λ m. IsAnswer m (Err why)) (sym applies.0 ∙ ap (λ z. apply z edit) is.state) refl
-
--- and the edits are with it or without
-pub edits_are : (old new : EditionState) (edit : Edit) (answer : Result ℕ Refusal) → Applies old edit answer new → new.edits ≡ edits_with edit answer old.edits
-edits_are old new edit (Ok number) applies = applies.2
-edits_are old new edit (Err why) applies = ap (λ (e : EditionState). e.edits) applies.1
-
 module _ {V I W : Type 0} (s : Session) where
   -- a state that is tied has these edits
   pub tied_with : (c : Core) (p : Pair V I W) → IsTied s c p → IsTied s (record c { edits = p.edition.edits }) p

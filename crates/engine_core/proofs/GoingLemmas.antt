@@ -23,6 +23,7 @@ use Rattle.control_desk.specs.Standing.{Awaits, Ended, Ready, is_ended, read_fai
 use Rattle.control_desk.proofs.ControlLemmas.{ahead_of, goes_on, tells_on}
 use Rattle.control_letter.specs.Letter.{DoesLetter}
 use Rattle.control_letter.specs.Shown.{shown_core, shown_cycles, standing_by}
+use Rattle.control_letter.proofs.PublishLemmas.{unread_yet}
 use Rattle.control_letter.proofs.WholeLemmas.{the_letter_is_done}
 use Rattle.serial_laws.specs.Answered.{HasAnswered}
 use Rattle.serial_laws.specs.Paced.{HasPaced}
@@ -51,12 +52,6 @@ use Rattle.engine_core.proofs.LawfulLemmas.{journal_is_lawful}
 use Rattle.engine_core.proofs.ShownLemmas.{seen_of, shown_of, shown_over}
 
 -- ---- where control stands
-
--- where it hasn't ended no read of it has failed
-unread_yet : (st : desk.Standing) → is_ended st ≡ false → read_failed st ≡ false
-unread_yet Ready e = refl
-unread_yet (Awaits awaited) e = refl
-unread_yet (Ended why) e = absurd (false≢true (sym e))
 
 -- where a letter was given, some was
 some_letter : (letters : List Letter) (letter : Letter) → letters ++ letter ∷ [] ≡ [] → ⊥

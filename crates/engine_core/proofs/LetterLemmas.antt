@@ -22,7 +22,8 @@ use Rattle.run_end.specs.Started.{Started}
 use Rattle.engine_core.specs.UnderWay.{IsUnderWay}
 use Rattle.engine_core.specs.Carrying.{MayCarry}
 use Rattle.engine_core.specs.Shows.{edits_of}
-use Rattle.engine_core.proofs.CarryLemmas.{edits_are, gives_edit, had_not_ended, is_answer, is_open, may_carry_on, starts_none}
+use Rattle.control_letter.proofs.PublishLemmas.{edits_are, is_answer, is_open}
+use Rattle.engine_core.proofs.CarryLemmas.{gives_edit, had_not_ended, may_carry_on, starts_none}
 
 module _ {C O : Type 0} (source : SourceOutside C) (sink : SinkOutside O) (s : Session) where
   -- What control answered before its next line.

@@ -18,11 +18,7 @@ use Rattle.control_desk.specs.Standing.{Standing, Ready, Awaits, Ended, after_du
 use Rattle.control_desk.specs.State.{ControlState}
 use Rattle.control_desk.specs.Steps.{CarriesOut, Replies}
 use Rattle.control_letter.specs.Letter.{Finishes, IsLetter, edits_with}
-
--- a write that fails leaves it so,
-quit_cut : (fault : Bool) (st : Standing) → desk.has_quit (cut_off fault st) ≡ desk.has_quit st
-quit_cut true st = refl
-quit_cut false st = refl
+use Rattle.control_letter.proofs.PublishLemmas.{edit_quits, quit_cut}
 
 -- nothing that is awaited is a quit,
 awaiting_none : (seen : Progress) (awaited : Option Awaited) → desk.has_quit (awaiting seen awaited) ≡ false
@@ -48,16 +44,6 @@ module _ {C O : Type 0} (source : SourceOutside C) (sink : SinkOutside O) where
   none_carried seen old given new (inl c) = quit_replied _ (awaiting seen (wait_of seen c.line)) _ new c.replies ∙ awaiting_none seen (wait_of seen c.line)
   none_carried seen old given new (inr (inl last)) = ap (λ (c : ControlState C O). desk.has_quit c.standing) last.ends.state
   none_carried seen old given new (inr (inr failed)) = ap (λ (c : ControlState C O). desk.has_quit c.standing) failed.state
-
-  -- it is one once it is accepted
-  edit_quits : (edits : List Edit) (edit : Edit) (answer : Result ℕ Refusal) → has_quit edits (length edits) ≡ false →
-      desk.has_quit (after_edit edit answer) ≡ has_quit (edits_with edit answer edits) (length (edits_with edit answer edits))
-  edit_quits edits edit (Err why) unquit = sym unquit
-  edit_quits edits edit (Ok number) unquit = by (is_quit edit) ∙ ap (λ b. if is_quit edit then true else b) (sym unquit) ∙ sym (quit_after edits edit)
-    where
-      by : (b : Bool) → desk.has_quit (if b then Ended Quit else Ready) ≡ (if b then true else false)
-      by true = refl
-      by false = refl
 
   finished : (s : Session) (edits : List Edit) (given : Option Edit) (taken : ControlState C O) (edits_now : List Edit) (new : ControlState C O) → desk.has_quit taken.standing ≡ false →
       has_quit edits (length edits) ≡ false → Finishes source sink s edits given taken edits_now new → desk.has_quit new.standing ≡ has_quit edits_now (length edits_now)

@@ -32,8 +32,8 @@ pub struct Played<I: Source, W: Sink> {
 }
 
 /// The process's thread: the header of the master, cycles as `PlayWorker` makes them, and the end of the master, unless a
-/// write of it has failed. Then its rings are closed, and all is given back. It takes no memory but what the reader's catching
-/// up takes, no lock and no wait, and returns.
+/// write of it has failed. Then its rings are closed, and all is given back. It takes no memory, no lock and no wait, and
+/// returns.
 pub fn play<I: Source, W: Sink>(w: PlayWorker<I, W>, patience: u64, bells: &Bells) -> Played<I, W>
     requires some { 1 ≤ patience }
     requires ready { IsReady I.outside W.outside w }

@@ -164,8 +164,8 @@ fn one<I: Source, W: Sink>(
 }
 
 /// Cycles, each once it is allowed, in the newest edition, with looks at most so many; until all are made, the edition that is
-/// entered has quit, the reader is refused, or the input or the master fails. It takes no memory but what the reader's
-/// catching up takes, no lock and no wait, and returns.
+/// entered has quit, the reader is refused, or the input or the master fails. It takes no memory, no lock and no wait, and
+/// returns.
 pub(crate) fn cycles<I: Source, W: Sink>(
     w: PlayWorker<I, W>,
     patience: u64,

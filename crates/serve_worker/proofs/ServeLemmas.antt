@@ -11,7 +11,7 @@ use Rattle.edition_log.specs.EditionState.{EditionState as Edition}
 use Rattle.butler.specs.declared.turning.Turn.{Turn}
 use Rattle.butler.specs.declared.faults.ButlerFault.{ButlerFault}
 use Rattle.butler.specs.ButlerState.{ButlerState}
-use Rattle.butler.specs.Faults.{Fails, KeepsRest, is_read_fault}
+use Rattle.butler.specs.Faults.{Counts, Fails, KeepsRest, is_read_fault}
 use Rattle.butler.specs.Hushed.{Hushes}
 use Rattle.butler.specs.Serving.{IsServing, IsTrueTo}
 use Rattle.butler.specs.Turns.{StaysTrue, TakesAreKept}
@@ -110,6 +110,11 @@ module _ {V : Type 0} (media : MediaOutside V) (on : ServedFrom) where
 module _ {V : Type 0} (media : MediaOutside V) (told : ServeTold V) where
   pub serves_now : (edits : List Edit) (w : ServeWorker V) → ServesAt media (with_entered w.reader.edition.edits (served_from media told edits)) w → ServesAlone media told w
   serves_now edits w serves = subst (λ z. ServesAt media (served_from media told z) w) (sym (take_all w.butler.entered w.reader.edition.edits (omega (arith, serves.turns.serving.entered)))) serves
+
+  -- a turn that sends nothing meets no failed read
+  pub unread_on : (most : ℕ) (w new : ServeWorker V) (idle : Bool) → TurnedOnce media told.session.value most w idle new → w.butler.hushed ≡ true →
+      media.read_faults new.butler.media ≡ media.read_faults w.butler.media
+  unread_on most w new idle once hushed = subst (λ failed. Counts failed (media.read_faults w.butler.media) (media.read_faults new.butler.media)) (once.fails.read_once hushed).0 once.fails.reads
 
   pub flushes_now : (edits : List Edit) (w : ServeWorker V) → FlushesAt media (with_entered w.reader.edition.edits (served_from media told edits)) w → FlushesAlone media told w
   flushes_now edits w flushes = subst (λ z. FlushesAt media (served_from media told z) w) (sym (take_all w.butler.entered w.reader.edition.edits (omega (arith, flushes.serves.turns.serving.entered)))) flushes

@@ -72,6 +72,8 @@ module _ {V : Type 0} where
   pub record FlushedOut (media : MediaOutside V) (told : ServeTold V) (most : ℕ) (old w : ServeWorker V) : Type 0 where
     pub flushes : FlushesAlone media told w
     pub reader : w.reader ≡ old.reader
+    -- no read has failed since
+    pub unread : media.read_faults w.butler.media ≡ media.read_faults old.butler.media
     -- before its last turn
     pub before : ServeWorker V
     pub flushed : FlushesAlone media told before

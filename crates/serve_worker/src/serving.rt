@@ -23,7 +23,7 @@ pub enum ServeEnd {
 
 /// Turns of at most so many items, each in the newest edition, with a rest after each that was Idle; until the capture rings are
 /// closed and a turn after that is Idle. Where the reader is refused, the playback rings are closed, and further turns flush alone.
-/// It takes no memory but what the reader's catching up takes.
+/// It takes no memory.
 pub fn serve<R: Wait, M: Media>(
     rt: &R,
     told: &ServeTold<M>,

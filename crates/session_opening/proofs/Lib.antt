@@ -2,4 +2,5 @@
 pub mod SourceLaws
 pub mod PlanLaws
 pub mod SoundLemmas
+pub mod FileLemmas
 mod PlanVectors

@@ -26,6 +26,7 @@ use Rattle.input_head.specs.Taken.{StandsBehind, TakesNoData}
 use Rattle.run_world.specs.declared.finished.Finished.{Finished}
 use Rattle.run_world.specs.declared.opened.Script.{Script}
 use Rattle.session_opening.specs.declared.loading.Loaded.{Loaded}
+use Rattle.session_opening.proofs.FileLemmas.{have_files}
 use Rattle.session_play.specs.declared.asked.Request as code
 use Rattle.session_play.specs.declared.outcome.Outcome.{Outcome}
 use Rattle.session_play.specs.declared.playing.Ready.{Ready}
@@ -43,22 +44,6 @@ use Rattle.session_play.proofs.CauseLemmas.{SaysOf, ends_so, has_causes, is_comp
 use Rattle.session_play.proofs.InputLemmas.{head_is}
 use Rattle.session_play.proofs.OpeningLemmas.{told_by_memory, told_by_play, told_by_unheard}
 use Rattle.session_play.proofs.PlayedLemmas.{Leaves, is_played}
-
--- ---- the sources that were opened have their files
-
-has_file : (rate channels : ℕ) (file : Option (List ℕ)) (h : Head) → source_head rate channels file ≡ Ok h → IsSome file
-has_file rate channels (Some b) h e = refl
-has_file rate channels None h e = absurd (nothing e)
-  where
-    nothing : Err NoFile ≡ Ok h → ⊥
-    nothing n = cc
-
-have_files : (files : Files) (rate : ℕ) (list : List SourceDecl) (opened : List OpenedSource) → IsOpened files rate list opened →
-    (i : ℕ) (o : OpenedSource) → slice_get opened i ≡ Some o → IsSome (files o.file)
-have_files files rate list opened is i o at = by (slice_get_cases list i).1 where
-  by : ((d : SourceDecl) × (i < length list) × (slice_get list i ≡ Some d) × (get_or list i d ≡ d)) ⊎ ((length list ≤ i) × (slice_get list i ≡ None)) → IsSome (files o.file)
-  by (inl w) = let as_opened = is.each i w.0 o w.2 at in subst (λ n. IsSome (files n)) (sym as_opened.file) (has_file rate w.0.channels (files w.0.file) o.head as_opened.head)
-  by (inr w) = absurd (omega (arith, is.many, slice_get_within opened i o at, w.0))
 
 -- ---- the head of the input was taken, and none of its data
 

@@ -32,8 +32,8 @@ pub struct Workers<'r, R: Wait, M: Media, I: Source, W: Sink> {
     pub acks: RingOut<Ack>,
 }
 
-/// Workers that did nothing yet, with the memory of all their steps but what readers take to catch up. Err is want of memory, and
-/// gives media, input and master back.
+/// Workers that did nothing yet, with the memory of all their steps. Err is want of memory, and gives media, input and master
+/// back.
 pub fn ready<'r, R: Wait, M: Media, I: Source, W: Sink>(
     rt: &'r R,
     alloc: Global,

@@ -8,13 +8,14 @@ use Rattle.serve_worker.proofs.serving.flush_out.Goals as goal
 
 -- src/serving.rt
 pub loop-turn-init : goal.loop-turn-init
-loop-turn-init g c = record { flushes = c.requires.flushes; keeps = butler_refl c.args.w.butler; reader = refl }
+loop-turn-init g c = record { flushes = c.requires.flushes; keeps = butler_refl c.args.w.butler; reader = refl; unread = refl }
 
 pub loop-turn-preserved-then-idle-2 : goal.loop-turn-preserved-then-idle-2
 loop-turn-preserved-then-idle-2 g c = let w = c.loop-turn.w in let new = c.in_edition-next.result.0 in let did = c.in_edition-next.ensures in let inv = c.loop-turn.invariant in record {
   flushes = serve.flushes_now g.M.Media.outside c.args.told.now (entered_last w) new (did.flushes inv.flushes);
   keeps = butler_trans c.args.w.butler w.butler new.butler inv.keeps did.keeps;
   reader = ap (λ (z : ServeWorker g.row.M.Denot). z.reader) did.same ∙ inv.reader;
+  unread = serve.unread_on g.M.Media.outside c.args.told.now c.args.most w new c.in_edition-next.result.1 did.turned inv.flushes.hushed ∙ inv.unread;
 }
 
 pub loop-turn-preserved : goal.loop-turn-preserved
@@ -22,12 +23,14 @@ loop-turn-preserved g c = let w = c.loop-turn.w in let new = c.in_edition-next.r
   flushes = serve.flushes_now g.M.Media.outside c.args.told.now (entered_last w) new (did.flushes inv.flushes);
   keeps = butler_trans c.args.w.butler w.butler new.butler inv.keeps did.keeps;
   reader = ap (λ (z : ServeWorker g.row.M.Denot). z.reader) did.same ∙ inv.reader;
+  unread = serve.unread_on g.M.Media.outside c.args.told.now c.args.most w new c.in_edition-next.result.1 did.turned inv.flushes.hushed ∙ inv.unread;
 }
 
 pub returns-then-over-clause-out : goal.returns-then-over-clause-out
 returns-then-over-clause-out g c = let M = g.M.Media.outside in let w = c.loop-turn.w in let new = c.in_edition-next.result.0 in let did = c.in_edition-next.ensures in let inv = c.loop-turn.invariant in record {
   flushes = serve.flushes_now M c.args.told.now (entered_last w) new (did.flushes inv.flushes);
   reader = ap (λ (z : ServeWorker g.row.M.Denot). z.reader) did.same ∙ inv.reader;
+  unread = serve.unread_on M c.args.told.now c.args.most w new c.in_edition-next.result.1 did.turned inv.flushes.hushed ∙ inv.unread;
   before = w;
   flushed = inv.flushes;
   keeps = inv.keeps;

@@ -11,4 +11,5 @@ invariant-loop-turn g l = record {
   flushes : FlushesAlone g.M.Media.outside l.told l.w;
   keeps : KeepsButler l.fn.w.butler l.w.butler;
   reader : l.w.reader ≡ l.fn.w.reader;
+  unread : g.M.Media.outside.read_faults l.w.butler.media ≡ g.M.Media.outside.read_faults l.fn.w.butler.media;
 }

@@ -1,0 +1,7 @@
+mod AnsweredLemmas
+mod HearLemmas
+mod HeardLemmas
+mod LeadLemmas
+mod LineLemmas
+mod LinkLemmas
+mod SettleLemmas

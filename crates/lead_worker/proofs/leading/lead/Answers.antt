@@ -1,0 +1,16 @@
+use Rattle.std.proofs.Common.{ap, subst, sym, length, ◌∙◌}
+use Rattle.edition_log.specs.EditionState.{EditionState}
+use Rattle.lead_worker.specs.Leads.{LeadLeaves}
+use Rattle.lead_worker.proofs.LeadLemmas.{lead_leaves}
+use Rattle.lead_worker.proofs.leading.lead.Goals as goal
+
+-- src/leading.rt
+pub returns : goal.returns
+returns g c = let source = g.C.Source.outside in let sink = g.O.Sink.outside in let s = c.args.session.now.value in let from = c.args.w.control in let lists = c.all_lines-lists.result.0 in
+    let memory = c.all_lines-lists.result.1 in let control = c.all_lines-lists.new.control in let link = c.all_lines-lists.new.link in let now = c.allow_all.new.self in let ends = c.ends-grants in
+    record {
+      leaves = subst (λ to. LeadLeaves source sink s c.args.cycles from memory lists control to ends.result.1) (sym ends.ensures.grants)
+          (subst (λ acks. LeadLeaves source sink s c.args.cycles from memory lists control now.granting.to acks) (sym ends.ensures.acks)
+          (lead_leaves source sink s c.args.cycles from lists link now c.args.w.link c.requires.begins.depth c.all_lines-lists.ensures.goes c.allow_all.ensures.goes ends.ensures.full memory control
+          c.number.result (c.number.ensures.number ∙ ap (λ (e : EditionState). length e.edits) c.edition.ensures) c.all_lines-lists.ensures.led c.allow_all.ensures.paced));
+    }
