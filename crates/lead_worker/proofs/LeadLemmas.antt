@@ -175,30 +175,43 @@ module _ {C O : Type 0} (source : SourceOutside C) (sink : SinkOutside O) (s : S
           by true over = absurd (false≢true (sym going ∙ whole.keeps.ended over))
 
       -- edits and replies are those of the lines
-      made : (list.edition.edits ≡ accepted_of s led.lines) × AreReplies s [] led.lines (reverse led.replies)
-      made = let h = led.said.answered [] (λ ended quit. refl) in let none = none_follow (is_ended control.standing) in (
-        sym (ap (λ l. accepted_from s list.edition.edits l) none) ∙ h.accepted ∙ ap (accepted_of s) (append-nil led.lines),
-        subst (λ l. AreReplies s [] l (reverse led.replies)) (append-nil led.lines) (subst (AreReplies s [] (led.lines ++ [])) (append-nil (reverse led.replies))
-            (h.replies [] (subst (λ l. StillToAnswer s (awaits_of control.standing) list.edition.edits l []) (sym none) (subst (λ a. StillToAnswer s a list.edition.edits [] []) (sym led.free) refl)))),
+      abbrev pub AreMade : List Line → Type 0
+      AreMade lines = (list.edition.edits ≡ accepted_of s lines) × AreReplies s [] lines (reverse led.replies)
+
+      -- with lines that aren't carried out
+      pub made_with : (left : List Line) → (is_ended control.standing ≡ true → desk.has_quit control.standing ≡ false → left ≡ []) → (if is_ended control.standing then no_line else left) ≡ no_line → AreMade (led.lines ++ left)
+      made_with left may none = let h = led.said.answered left may in (
+        sym (ap (λ l. accepted_from s list.edition.edits l) none) ∙ h.accepted,
+        subst (AreReplies s [] (led.lines ++ left)) (append-nil (reverse led.replies))
+            (h.replies [] (subst (λ l. StillToAnswer s (awaits_of control.standing) list.edition.edits l []) (sym none) (subst (λ a. StillToAnswer s a list.edition.edits [] []) (sym led.free) refl))),
       )
+
+      pub made_alone : AreMade (led.lines ++ [])
+      made_alone = made_with [] (λ ended quit. refl) (none_follow (is_ended control.standing))
+
+      made : AreMade led.lines
+      made = subst AreMade (append-nil led.lines) made_alone
 
       heard_now : list_all (is_heard (acks_in link_now.hearing) link_now.hearing.ended) (reverse led.replies) ≡ true
       heard_now = reversed_too (is_heard (acks_in link_now.hearing) link_now.hearing.ended) led.replies (stays_heard link link_now led.replies on led.heard)
 
-      pub leaves : (memory : Bool) (now : ControlState C O) (unsaid : List Line) → (memory ≡ false → (unsaid ≡ []) × (now ≡ control) × (is_ended control.standing ≡ true)) → GoesOn source sink from (led.lines ++ unsaid) (reverse led.replies) now →
+      pub leaves : (memory : Bool) (now : ControlState C O) (unsaid : List Line) → (memory ≡ false → (unsaid ≡ []) × (now ≡ control) × (is_ended control.standing ≡ true)) →
+          (memory ≡ true → (edit : Edit) × (unsaid ≡ Says (Do edit) ∷ [])) → ((left : List Line) → (desk.has_quit now.standing ≡ false → left ≡ []) → AreMade (led.lines ++ left)) → GoesOn source sink from (led.lines ++ unsaid) (reverse led.replies) now →
           LeadLeaves source sink s cycles from memory list now link_now.granting.to link_now.hearing
       unfolding granted
-      leaves memory now unsaid plainly goes_on = record {
+      leaves memory now unsaid plainly one further goes_on = record {
         lines = led.lines;
         replies = reverse led.replies;
         unsaid = unsaid;
         whole = λ enough. (plainly enough).0;
+        one = one;
         goes = goes_on;
         ended = λ enough. ap (λ (c : ControlState C O). is_ended c.standing) (plainly enough).1 ∙ (plainly enough).2;
         quits = λ enough. ap (λ (c : ControlState C O). desk.has_quit c.standing) (plainly enough).1 ∙ led.said.quits;
         last = λ enough is. led.said.last (sym (ap (λ (c : ControlState C O). c.standing) (plainly enough).1) ∙ is);
         edits = made.0;
         answered = made.1;
+        further = further;
         granted = granted;
         left_out = none_left;
         heard = heard_now;
@@ -209,8 +222,10 @@ module _ {C O : Type 0} (source : SourceOutside C) (sink : SinkOutside O) (s : S
     -- **What control leaves**
     pub lead_leaves : (memory : Bool) (control : ControlState C O) (number : ℕ) → number ≡ length list.edition.edits → IsLedUntil source sink s from list control link memory →
         ((paces : List Pace) → IsPaced paces link → IsPacedWhole cycles number paces link_now) → LeadLeaves source sink s cycles from memory list control link_now.granting.to link_now.hearing
-    lead_leaves false control number is (led, ended) paced = leaves control led (subst (λ n. IsPacedWhole cycles n (paces_from s [] led.lines) link_now) is (paced (paces_from s [] led.lines) led.paced)) false control []
-        (λ enough. (refl, refl, ended)) (subst (λ l. GoesOn source sink from l (reverse led.replies) control) (sym (append-nil led.lines)) led.said.goes)
+    lead_leaves false control number is (led, ended) paced = let whole = subst (λ n. IsPacedWhole cycles n (paces_from s [] led.lines) link_now) is (paced (paces_from s [] led.lines) led.paced) in
+        leaves control led whole false control [] (λ enough. (refl, refl, ended)) (λ short. absurd (false≢true short))
+        (λ left quit. made_with control led whole left (λ e. quit) (ap (λ b. if b then no_line else left) ended)) (subst (λ l. GoesOn source sink from l (reverse led.replies) control) (sym (append-nil led.lines)) led.said.goes)
     lead_leaves true control number is wants paced = let led = wants.led in
-        leaves wants.before led (subst (λ n. IsPacedWhole cycles n (paces_from s [] led.lines) link_now) is (paced (paces_from s [] led.lines) led.paced)) true control (Says (Do wants.loses.edit) ∷ [])
-        (λ enough. absurd (true≢false enough)) wants.loses.goes
+        let whole = subst (λ n. IsPacedWhole cycles n (paces_from s [] led.lines) link_now) is (paced (paces_from s [] led.lines) led.paced) in
+        leaves wants.before led whole true control (Says (Do wants.loses.edit) ∷ []) (λ enough. absurd (true≢false enough)) (λ short. (wants.loses.edit, refl))
+        (λ left quit. subst (λ l. AreMade wants.before led whole (led.lines ++ l)) (sym (quit (ap desk.has_quit wants.loses.ready))) (made_alone wants.before led whole)) wants.loses.goes

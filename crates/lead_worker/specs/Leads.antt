@@ -153,6 +153,7 @@ module _ {C O : Type 0} (source : SourceOutside C) (sink : SinkOutside O) (s : S
     -- and one edit more was taken where there was no memory to publish it
     pub unsaid : List Line
     pub whole : memory ≡ false → unsaid ≡ []
+    pub one : memory ≡ true → (edit : Edit) × (unsaid ≡ Says (Do edit) ∷ [])
     pub goes : GoesOn source sink from (lines ++ unsaid) replies control
     -- where there was, control has ended: by a quit exactly where an accepted edit has quit; where no line is left, these are all
     pub ended : memory ≡ false → is_ended control.standing ≡ true
@@ -161,6 +162,8 @@ module _ {C O : Type 0} (source : SourceOutside C) (sink : SinkOutside O) (s : S
     -- edits, replies and grants are those of the lines
     pub edits : list.edition.edits ≡ accepted_of s lines
     pub answered : AreReplies s [] lines replies
+    -- and of these with any that an accepted quit has left, since after a quit none counts
+    pub further : (left : List Line) → (desk.has_quit control.standing ≡ false → left ≡ []) → (list.edition.edits ≡ accepted_of s (lines ++ left)) × AreReplies s [] (lines ++ left) replies
     pub granted : AreGranted s cycles list.edition.edits lines (shown_of grants)
     -- grants were left out only once no acknowledgement came any more
     pub left_out : acks.ended ≡ false → granted.rest ≡ []

@@ -2,6 +2,8 @@
 ghost use Rattle.std.specs.Prelude.{◌≡◌, true};
 ghost use Rattle.control_desk.specs.Standing.{is_ended};
 ghost use Rattle.lead_worker.specs.Leads.{BeginsToLead, IsLedUntil, LeadLeaves};
+ghost use Rattle.disk_ring.specs.Receiver.{GoesOnOut};
+ghost use Rattle.disk_ring.specs.Sender.{GoesOnIn};
 ghost use Rattle.lead_worker.specs.Links.{GoesOnLink};
 
 use crate::line::carry;
@@ -79,6 +81,8 @@ pub fn lead<'r, R: Wait, C: Source, O: Sink>(
     requires begins { BeginsToLead session.now.value w.lists w.control w.link }
     ensures leaves { LeadLeaves C.outside O.outside session.now.value cycles w.entry.control
         result.memory result.lists result.control result.grants result.acks }
+    ensures grants { GoesOnIn w.entry.link.granting.to result.grants }
+    ensures acks { GoesOnOut w.entry.link.hearing result.acks }
 {
     let LeadWorker {
         lists,

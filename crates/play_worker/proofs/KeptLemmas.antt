@@ -55,6 +55,7 @@ module _ {I W : Type 0} where
         journal = ([], append-nil a.journal.items ∙ ap (λ j. j.items) (sym journal));
         room = ap (λ j. j.room) journal;
         stream = ap (λ (z : ProcessState I W). z.input.stream) keeps.same;
+        block = ap (λ (z : ProcessState I W). z.input.block) keeps.same;
       }
 
 -- ---- an entry
@@ -69,8 +70,8 @@ captured s t channels input a (Taken n i) b is = after_put a b is.block is.sent 
 captured s t channels input a (Lost n i head) b is = after_full a b head is.heads is.head_is.rises
 
 module _ {I W : Type 0} (inputs : SourceOutside I) (at : Playing) (e : Edition) (p q : ProcessState I W) where
-  entry_keeps_run : MakesEntry at.session e p q → q.input.stream ≡ p.input.stream → KeepsRun p q
-  entry_keeps_run made stream = record {
+  entry_keeps_run : MakesEntry at.session e p q → q.input.stream ≡ p.input.stream → q.input.block ≡ p.input.block → KeepsRun p q
+  entry_keeps_run made stream block = record {
     rings = record {
       many_plays = ap (λ (z : ProcessState I W). length z.ends.plays.items) made.same;
       plays = λ t x y hx hy. subst (GoesOnOut x) (same_Some x y (sym hx ∙ sym (ap (λ (z : ProcessState I W). slice_get z.ends.plays.items t) made.same) ∙ hy)) (goes_on_out_refl x);
@@ -83,15 +84,17 @@ module _ {I W : Type 0} (inputs : SourceOutside I) (at : Playing) (e : Edition) 
     journal = (made.made ∷ [], sym (ap (λ j. j.items) made.noted));
     room = ap (λ j. j.room) made.noted;
     stream = stream;
+    block = block;
   }
 
-  fault_keeps_run : HasStopped p q → q.input.stream ≡ p.input.stream → KeepsRun p q
-  fault_keeps_run stopped stream = let ends : q.ends ≡ p.ends = ap (λ (z : ProcessState I W). z.ends) stopped in
+  fault_keeps_run : HasStopped p q → q.input.stream ≡ p.input.stream → q.input.block ≡ p.input.block → KeepsRun p q
+  fault_keeps_run stopped stream block = let ends : q.ends ≡ p.ends = ap (λ (z : ProcessState I W). z.ends) stopped in
       let journal : q.journal ≡ p.journal = ap (λ (z : ProcessState I W). z.journal) stopped in record {
         rings = subst (KeepsRings p.ends) (sym ends) (rings_stand p.ends);
         journal = ([], append-nil p.journal.items ∙ ap (λ j. j.items) (sym journal));
         room = ap (λ j. j.room) journal;
         stream = stream;
+        block = block;
       }
     where
       rings_stand : (r : ProcessEnds) → KeepsRings r r
@@ -105,9 +108,9 @@ module _ {I W : Type 0} (inputs : SourceOutside I) (at : Playing) (e : Edition) 
       }
 
   pub cycle_keeps_run : (result : Result (Unit {0}) CycleFault) → OnOk result (MakesEntry at.session e p q) → OnErr result (HasStopped p q) → CycleReads inputs at p result q → KeepsRun p q
-  cycle_keeps_run (Ok x) made fault reads = entry_keeps_run made reads.stream
-  cycle_keeps_run (Err InputFault) made fault reads = fault_keeps_run fault reads.stream
-  cycle_keeps_run (Err MasterFault) made fault reads = fault_keeps_run fault reads.stream
+  cycle_keeps_run (Ok x) made fault reads = entry_keeps_run made reads.stream reads.block
+  cycle_keeps_run (Err InputFault) made fault reads = fault_keeps_run fault reads.stream reads.block
+  cycle_keeps_run (Err MasterFault) made fault reads = fault_keeps_run fault reads.stream reads.block
 
 -- ---- one after the other
 
@@ -130,4 +133,5 @@ module _ {I W : Type 0} where
     journal = prefix_trans a.journal.items b.journal.items c.journal.items h.journal k.journal;
     room = k.room ∙ h.room;
     stream = k.stream ∙ h.stream;
+    block = k.block ∙ h.block;
   }

@@ -24,7 +24,7 @@ module _ {I W : Type 0} where
   at_end w sink = record w { process = rewritten w.process sink }
 
   pub master_keeps : (old new : ProcessState I W) → new ≡ rewritten old new.master.sink → KeepsRun old new
-  master_keeps old new same = subst (KeepsRun old) (sym same) (let is = run_refl old in record { rings = is.rings; journal = is.journal; room = is.room; stream = is.stream })
+  master_keeps old new same = subst (KeepsRun old) (sym same) (let is = run_refl old in record { rings = is.rings; journal = is.journal; room = is.room; stream = is.stream; block = is.block })
 
   -- ---- what stands then
 

@@ -15,9 +15,10 @@ pub record KeepsRings (old new : ProcessEnds) : Type 0 where
   pub to_butler : GoesOnIn old.to_butler new.to_butler
   pub to_control : GoesOnIn old.to_control new.to_control
 
--- its rings, the entries made, room for as many, and what was told of the input
+-- its rings, the entries made, room for as many, and what was told of the input, with the frames of a block
 pub record KeepsRun {I W : Type 0} (old new : ProcessState I W) : Type 0 where
   pub rings : KeepsRings old.ends new.ends
   pub journal : IsPrefix old.journal.items new.journal.items
   pub room : new.journal.room ≡ old.journal.room
   pub stream : new.input.stream ≡ old.input.stream
+  pub block : new.input.block ≡ old.input.block

@@ -127,6 +127,20 @@ impl<'r, R: Wait> Lists<'r, R> {
         (next, Ok(()))
     }
 
+    /// The session after the edits that were published; nothing is published any more. It may wait for readers, which then enter
+    /// no more.
+    pub fn close(self) -> Edition
+        ensures { result ≡ self.entry.edition }
+    {
+        let Lists {
+            writer,
+            rt,
+            edition,
+        } = self;
+        drop(writer.take(rt));
+        edition
+    }
+
     /// The session after the edits that were published.
     pub fn edition(&self) -> &Edition
         ensures { result.now ≡ self.now.edition }

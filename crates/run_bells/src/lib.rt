@@ -7,7 +7,7 @@ use std::sync::atomic::{AtomicU64, Ordering};
 use std::thread::Parker;
 use std::time::Duration;
 
-/// How long a worker rests at most where nothing wakes it, in milliseconds.
+/// How long a worker rests at most where nothing wakes it, in milliseconds (measured: docs/PERFORMANCE.md).
 const REST: u64 = 10;
 
 /// The bells of butler and control, and how far the process is.
@@ -17,6 +17,7 @@ pub struct Bells {
     progress: AtomicU64,
     butler: Parker,
     control: Parker,
+    rest: u64,
 }
 
 /// How far the process is, as it said last.
@@ -29,12 +30,18 @@ pub struct HowFar {
 }
 
 impl Bells {
-    /// Nobody rests, and no entry was made.
+    /// Nobody rests, and no entry was made; a rest is of `REST` milliseconds.
     pub fn new() -> Bells {
+        Bells::resting(REST)
+    }
+
+    /// The same, with rests of so many milliseconds.
+    pub fn resting(rest: u64) -> Bells {
         Bells {
             progress: AtomicU64::new(0),
             butler: Parker::new(),
             control: Parker::new(),
+            rest,
         }
     }
 
@@ -61,12 +68,14 @@ impl Bells {
 
     /// The butler rests, until it is woken or a rest is over.
     pub fn rest_butler<R: Wait>(&self, rt: &R) {
-        self.butler.park_timeout(rt, Duration::from_millis(REST));
+        self.butler
+            .park_timeout(rt, Duration::from_millis(self.rest));
     }
 
     /// Control rests, until it is woken or a rest is over.
     pub fn rest_control<R: Wait>(&self, rt: &R) {
-        self.control.park_timeout(rt, Duration::from_millis(REST));
+        self.control
+            .park_timeout(rt, Duration::from_millis(self.rest));
     }
 
     /// How far the process is, as it said last.

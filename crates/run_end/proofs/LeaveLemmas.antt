@@ -213,6 +213,7 @@ module _ {V I W : Type 0} (media : MediaOutside V) (inputs : SourceOutside I) (o
         edits = parted.edits ∙ ap (λ (z : Edition). z.edits) alone.edition;
         sent = ap (λ (z : Joined Ack). z.sent) parted.acks ∙ ap (λ (z : Sender Ack). z.sent) alone.ends.to_control;
         received = ap (λ (z : Joined Ack). z.received) parted.acks;
+        ended = ap (λ (z : Joined Ack). z.ended) parted.acks;
         failed = parted.failed ∙ ap (λ (f : Failures). record f { write = e.failed.write }) alone.failed ∙ ap (λ b. record was { read = b; write = e.failed.write }) (sym read_same);
         read_still = λ failed. read_same ∙ alone.read_still failed;
         write_still = λ failed. write_on (alone.write_still failed);

@@ -14,12 +14,12 @@ use Rattle.run_end.specs.Started.{Started}
 module _ {M I C W O : Type 0} where
   -- A run may begin with what was opened.
   pub record MayRun (media : MediaOutside M) (o : Opened M I C W O) : Type 0 where
-    -- edition 0 of a valid session, to which no edit has come yet, and one may
+    -- edition 0 of a valid session, to which no edit has come yet, and whose list hasn't ended
     pub valid : IsValid o.edition.session
     pub edition_of : IsEditionOf o.edition.session o.edition
     pub first : o.edition.edits ≡ []
     pub not_ended : o.edition.ended ≡ false
-    -- the sources were opened for the session's, and no line of them is held yet
+    -- the sources were opened for the session's, and the cache holds none of their frames yet
     pub listed : IsListed o.edition.session.rate o.edition.session.sources.items o.sources.opened
     pub held : o.sources.held ≡ []
     pub some_cycle : 1 ≤ o.cycles

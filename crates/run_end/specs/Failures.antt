@@ -25,7 +25,7 @@ after_cycle (Ok u) f = f
 after_cycle (Err InputFault) f = record f { input = true }
 after_cycle (Err MasterFault) f = record f { master = true }
 
--- A count of faults that was once this, and whether it rose since.
+-- A count of faults that was once this, and whether it rose since; one that stands at its type's end counts as risen.
 pub record IsFaultCount (before now : ℕ) (rose : Bool) : Type 0 where
   pub later : before ≤ now
   pub kept : rose ≡ false → now ≡ before

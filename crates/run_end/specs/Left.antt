@@ -20,6 +20,7 @@ module _ {V I W : Type 0} where
     -- nothing more is put into the ring to control, or taken from it
     pub sent : e.acks.sent ≡ ending.ends.to_control.sent
     pub received : e.acks.received ≡ stopped.acks.received
+    pub ended : e.acks.ended ≡ stopped.acks.ended
     -- of faults only those of the media are noted, and what had failed has failed
     pub failed : e.failed ≡ record was { read = e.failed.read; write = e.failed.write }
     pub read_still : was.read ≡ true → e.failed.read ≡ true

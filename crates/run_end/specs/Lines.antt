@@ -26,8 +26,8 @@ module _ {M I C W O : Type 0} where
     pub control : ControlState C O
     pub goes : GoesOn source sink (control_of o.world.control o.world.out o.script) lines replies control
     pub parts : parts_of control ≡ record { source = f.world.control; out = f.world.out; read_failed = f.faults.control; write_failed = f.faults.out; long = f.faults.long }
-    -- only a quit leaves lines; where a read or a write of control has failed those that weren't taken are in neither list, else
-    -- all are in one of the two
+    -- only a quit leaves lines; where a read of control or a write of out has failed those that weren't taken are in neither list, else
+    -- all are in one of the two, where control tells its lines
     pub quits : desk.has_quit control.standing ≡ false → left ≡ []
     pub all : Tells source (control_of {C = C} {O = O} o.world.control o.world.out o.script).script → f.faults.control ≡ false → f.faults.out ≡ false →
         ahead source (control_of {C = C} {O = O} o.world.control o.world.out o.script) ≡ lines ++ left

@@ -65,7 +65,7 @@ module _ {M I C W O : Type 0} where
     pub whole : MasterIsWhole media sinks o f
     pub cut_off : MasterIsCutOff media sinks o f
 
-  -- **All cycles were made that were asked**; fewer only after a quit, or where the input or the master has failed.
+  -- **All cycles were made that were asked**; fewer only where some accepted edit has quit, entered or not, or the input or the master has failed.
   pub record MakesItsCycles (o : Opened M I C W O) (f : Finished M I C W O) : Type 0 where
     pub most : length (journal_of f) ≤ o.cycles
     pub all : has_quit f.edits.items (length f.edits.items) ≡ false → has_stopped (failures_of f.faults) ≡ false → length (journal_of f) ≡ o.cycles
@@ -78,11 +78,11 @@ module _ {M I C W O : Type 0} where
   abbrev pub bytes_due_after : Opened M I C W O → ℕ → ℕ
   bytes_due_after o = bytes_due_next (stream_told o.form) o.edition.session.block
 
-  -- **The input gave one block for each entry**, as far as its data goes.
+  -- **The input gave one block for each entry**, as far as its data goes and where it tells.
   pub record InputGave (inputs : SourceOutside I) (o : Opened M I C W O) (f : Finished M I C W O) : Type 0 where
     -- a stream that has no frames is asked for nothing
     pub untouched : (stream_told o.form).frames ≡ 0 → f.world.input ≡ o.world.input
-    -- no more than these blocks where neither it nor the master has failed
+    -- just these blocks where neither it nor the master has failed
     pub read : inputs.tells → has_stopped (failures_of f.faults) ≡ false → inputs.left f.world.input ≡ after_blocks inputs o (length (journal_of f))
     -- a read of it fails only where some was asked; it had given these blocks, and lost less than one more
     pub asked : f.faults.input ≡ true → 0 < bytes_due_after o (length (journal_of f))

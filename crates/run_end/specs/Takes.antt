@@ -23,7 +23,7 @@ pub record AreCut (run : Recorded) (journal : List Entry) (before after : ℕ) (
   -- each by its track and its number; the count of failed writes stands still at its end
   pub cut : List (ℕ × ℕ)
   pub many : min (before + length cut) (2 ^ 64 - 1) ≤ after
-  -- so it is of so many failed writes as a run can note
+  -- where fewer are cut than can be noted
   pub whole : length cut < most_failed → (t n : ℕ) → t < length run.session.tracks.items → names_take t n journal ≡ true → is_among t n cut ≡ false →
       files (take_name run.session t n) ≡ Some (take_file run.session run.input t n journal)
 
@@ -39,7 +39,7 @@ pub record LeavesTakes {V I W : Type 0} (media : MediaOutside V) (inputs : Sourc
   -- and once a write has failed, a front of each take's sound
   pub in_part : on.begun.records ≡ true → media.tells → ended.failed.write ≡ true →
       AreTakesInPart (recorded_of on.begun input) (seen_entries ended.journal.items) (media.files ended.media)
-  -- of no more takes than writes failed, while all others are whole
+  -- whatever was written: all takes are whole but as many as writes failed
   pub others : on.begun.records ≡ true → media.tells →
       AreCut (recorded_of on.begun input) (seen_entries ended.journal.items) on.begun.write_faults (media.write_faults ended.media) (media.files ended.media)
   -- else no file has changed

@@ -6,8 +6,8 @@ use run_rings::RingsList;
 use ses_io::World;
 use session_model::EditList;
 
-/// What went wrong in a run: each is set exactly where its object's count rose, but for `long`, which
-/// no count tells, and `memory`, which no run that has begun sets.
+/// What went wrong in a run: each is set exactly where its object's count rose, but for `long` and
+/// `memory`, which no count tells.
 #[derive(Clone, Copy, Debug, Default, PartialEq, Eq)]
 pub struct Faults {
     /// A read of the input failed.
@@ -24,7 +24,8 @@ pub struct Faults {
     pub long: bool,
     /// A write of the replies failed.
     pub out: bool,
-    /// A call answered want of memory: never in a run that has begun.
+    /// A call of a run on threads answered want of memory once they had begun; a run on one thread
+    /// never sets it.
     pub memory: bool,
 }
 

@@ -41,12 +41,13 @@ module _ {V : Type 0} where
   -- The list was entered as it was published then, and in that edition a turn was made.
   pub record MakesATurn (media : MediaOutside V) (on : ServedFrom) (most : ℕ) (old : ServeWorker V) (idle : Bool) (new : ServeWorker V) : Type 0 where
     pub entered : Enters old.reader new.reader
-    pub turned : TurnedOnce media on.at.session most (record { reader = new.reader; butler = old.butler }) idle new
+    pub turned : TurnedOnce media on.at.session most (record { reader = new.reader; butler = old.butler; failed = old.failed }) idle new
     pub serves : ServesAt media (with_entered new.reader.edition.edits on) new
 
   -- The reader was refused, so none was, and nothing is sent any more.
   pub record TurnIsRefused (media : MediaOutside V) (on : ServedFrom) (old new : ServeWorker V) : Type 0 where
-    pub serves : ServesAt media on (record { reader = new.reader; butler = old.butler })
+    pub serves : ServesAt media on (record { reader = new.reader; butler = old.butler; failed = old.failed })
+    pub failed : new.failed ≡ old.failed
     pub hushes : Hushes old.butler new.butler
 
   -- what a step leaves, by how it went

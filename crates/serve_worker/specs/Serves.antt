@@ -57,6 +57,8 @@ module _ {V : Type 0} where
     pub turns : TurnsAt on w
     pub keeps : KeepsMedia media on read_failed w.butler
     pub true_to : media.tells → IsTrueTo on.at.held on.at.session on.at.edits w.butler
+    -- what has failed is noted
+    pub noted : w.failed ≡ record { read = read_failed; write = w.butler.write_failed }
 
   -- **The butler serves on**: it sends what is due, unless a read has failed.
   abbrev pub ServesAt : MediaOutside V → ServedFrom → ServeWorker V → Type 0

@@ -9,6 +9,7 @@ ghost use Rattle.serve_worker.specs.Kept.{KeepsButler};
 ghost use Rattle.serve_worker.specs.Serves.{FlushesAt, ServedFrom, ServesAt, TurnsAt, with_entered};
 ghost use Rattle.serve_worker.specs.Ends.{TurnedOnce, TurnLeaves, is_idle};
 
+use crate::faults::MediaFaults;
 use crate::told::ServeTold;
 use butler::{Butler, ButlerFault, Turn};
 use route_lists::ListReader;
@@ -19,6 +20,8 @@ use ses_io::Media;
 pub struct ServeWorker<M: Media> {
     pub reader: ListReader,
     pub butler: Butler<M>,
+    /// What has failed in its turns.
+    pub failed: MediaFaults,
 }
 
 /// How a turn went, as far as the butler's thread goes by it.
@@ -53,10 +56,22 @@ fn newest<M: Media>(w: ServeWorker<M>) -> Result<ServeWorker<M>, ServeWorker<M>>
     ensures told { MatchResult result (λ r. HasSameTold w.reader r.reader)
         (λ r. HasSameTold w.reader r.reader) }
 {
-    let ServeWorker { reader, butler } = w;
+    let ServeWorker {
+        reader,
+        butler,
+        failed,
+    } = w;
     match reader.enter() {
-        Ok(reader) => Ok(ServeWorker { reader, butler }),
-        Err(reader) => Err(ServeWorker { reader, butler }),
+        Ok(reader) => Ok(ServeWorker {
+            reader,
+            butler,
+            failed,
+        }),
+        Err(reader) => Err(ServeWorker {
+            reader,
+            butler,
+            failed,
+        }),
     }
 }
 
@@ -74,14 +89,24 @@ pub(crate) fn in_edition<M: Media>(
     ensures flushes { FlushesAt M.outside on w
         → FlushesAt M.outside (with_entered result.0.reader.edition.edits on) result.0 }
     ensures turned { TurnedOnce M.outside on.at.session most w result.1 result.0 }
-    ensures same { result.0 ≡ record w { butler = result.0.butler } }
+    ensures same { result.0 ≡ record w { butler = result.0.butler; failed = result.0.failed } }
     ensures keeps { KeepsButler w.butler result.0.butler }
 {
     // by which the caller's clauses know the worker's first media
     let _ = told;
-    let ServeWorker { reader, mut butler } = w;
+    let ServeWorker {
+        reader,
+        mut butler,
+        failed,
+    } = w;
     let answer = butler.turn(reader.edition(), most);
-    (ServeWorker { reader, butler }, is_idle(answer))
+    let noted = failed.after(&answer);
+    let next = ServeWorker {
+        reader,
+        butler,
+        failed: noted,
+    };
+    (next, is_idle(answer))
 }
 
 /// A turn of at most so many items in the newest edition. Where the reader is refused none is made, and nothing is sent any more.

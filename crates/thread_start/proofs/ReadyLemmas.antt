@@ -1,5 +1,5 @@
 -- Why workers that did nothing yet are ready.
-use Rattle.std.proofs.Common.{◌≡◌, ℕ, ◌++◌, List, [], length, take, refl, sym, ap, ◌∙◌, subst, arith}
+use Rattle.std.proofs.Common.{◌≡◌, ◌++◌, List, [], length, take, refl, sym, ap, ◌∙◌, subst, arith}
 use Rattle.std.specs.Prelude.{true, false, codes}
 use Rattle.ses_io.specs.Files.{Files, HasNameUnder}
 use Rattle.ses_io.specs.FixedList.{Listed}
@@ -52,7 +52,7 @@ module _ {V I W : Type 0} (media : MediaOutside V) (inputs : SourceOutside I) (s
   module _ (record_may : media.tells → MayRecord s (media.files start.media) start.sources.opened) (ends : ButlerEnds) (w : ServeWorker V) (serving : IsServing s [] w.butler)
       (given : IsGiven start.media start.sources.opened start.cycles ends w.butler) (true_to : (files : Files) → IsTrueTo files s [] w.butler)
       (no_take : (held : Files) → ¬ (HasNameUnder held (s.takes ++ codes "-")) → IsFlushed (tape_of (record { session = s; held = held }) w.butler.ends.takes.items) w.butler.drain.files held)
-      (of : IsReaderOf s w.reader) where
+      (of : IsReaderOf s w.reader) (noted : w.failed ≡ record { read = false; write = false }) where
     abbrev first : ServedFrom
     first = record { at = record { session = s; held = media.files start.media; edits = [] }; read_faults = media.read_faults start.media; write_faults = media.write_faults start.media }
 
@@ -71,6 +71,7 @@ module _ {V I W : Type 0} (media : MediaOutside V) (inputs : SourceOutside I) (s
         writes = subst (λ b. Counts b (media.write_faults start.media) (media.write_faults w.butler.media)) (sym given.no_write_failed) (ap media.write_faults given.media_is);
       };
       true_to = λ tells. true_to (media.files start.media);
+      noted = noted ∙ ap (λ flag. record { read = flag; write = false }) (sym given.not_hushed) ∙ ap (λ flag. record { read = w.butler.hushed; write = flag }) (sym given.no_write_failed);
     }
 
     pub serves_ready : (told : ServeTold V) → told.session.value ≡ s → told.media.value ≡ start.media → ServesAlone media told w

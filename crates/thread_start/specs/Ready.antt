@@ -3,7 +3,8 @@ use Rattle.std.specs.Prelude.{◌≡◌}
 use Rattle.ses_io.specs.Outside.{MediaOutside, SourceOutside, SinkOutside}
 use Rattle.disk_ring.specs.Receiver.{Receiver}
 use Rattle.piece_item.specs.declared.ack.Ack.{Ack}
-use Rattle.process_ends.specs.Ends.{AreOtherEnds, IsNewOut}
+use Rattle.input_blocks.specs.Rest.{stream_told}
+use Rattle.process_ends.specs.Ends.{AreNew, AreOtherEnds, IsNewOut}
 use Rattle.route_lists.specs.Answers.{new_reader}
 use Rattle.route_lists.specs.Lists.{Published}
 use Rattle.cycle_grants.specs.Granting.{GrantingState}
@@ -30,6 +31,12 @@ module _ {V I W : Type 0} where
     pub media_is : told.media.value ≡ start.media
     -- there is room for the cycles that are asked for
     pub cycles : p.process.journal.room ≡ start.cycles
+    pub asked : b.butler.cycles ≡ start.cycles
+    -- they have what was opened, and what the head of the input said
+    pub opened : b.butler.sources.opened ≡ start.sources.opened
+    pub stream : p.process.input.stream ≡ stream_told start.form
+    -- nothing went through the rings of the process
+    pub ends_are : AreNew start.edition.session p.process.ends
     -- the butler has the other ends of the process's rings, and control the other ends of its two
     pub others : AreOtherEnds p.process.ends b.butler.ends
     pub acks_are : IsNewOut start.edition.session.depth 0 acks

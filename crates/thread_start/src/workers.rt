@@ -11,7 +11,7 @@ use piece_item::Ack;
 use play_worker::{PlayWorker, Told};
 use route_lists::Lists;
 use run_rings::RunEnds;
-use serve_worker::{ServeTold, ServeWorker};
+use serve_worker::{MediaFaults, ServeTold, ServeWorker};
 use ses_io::{Media, Sink, Source};
 use std::alloc::Global;
 use std::sync::Wait;
@@ -75,6 +75,7 @@ pub fn ready<'r, R: Wait, M: Media, I: Source, W: Sink>(
             serving: ServeWorker {
                 reader: serving,
                 butler,
+                failed: MediaFaults::default(),
             },
             told,
             lists,

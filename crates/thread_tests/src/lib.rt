@@ -1,16 +1,11 @@
-//! Process and butler side by side, under scripts of control, a thousand times over: whatever the schedule, `verify` finds journal and master
-//! as they have to be.
+//! Runs on three threads: by scripts a thousand times over, and drawn ones, each judged by the house's own definitions.
 #![tactic(auto)]
 
 #[cfg(test)]
-mod files;
+mod drawn;
 #[cfg(test)]
-mod judging;
-#[cfg(test)]
-mod leading;
-#[cfg(test)]
-mod opening;
-#[cfg(test)]
-mod running;
+mod rows;
 #[cfg(test)]
 mod scripts;
+#[cfg(test)]
+mod session;
